@@ -1,0 +1,7 @@
+pub mod Digits
+pub mod Lending
+pub mod Lists
+pub mod Names
+pub mod Picture
+pub mod Pictures
+pub mod Samples
