@@ -1,0 +1,149 @@
+//! A shelf in memory.
+
+ghost use Rattle.std.specs.Prelude.{◌≡◌, [], map, IfOk};
+ghost use Rattle.sal_io.specs.Calls.{IsRaised};
+ghost use Rattle.std.specs.Bool.{OnTrue, OnFalse};
+ghost use Rattle.std.specs.Option.{option_map};
+ghost use Rattle.sal_io.specs.Memory.{bytes_under, past_of};
+
+use crate::answers::ShelfFault;
+use crate::ledger::{Ledger, Shut};
+use crate::mem_file::MemFile;
+use crate::mem_sink::MemSink;
+use crate::mem_source::MemSource;
+use crate::traits::Shelf;
+use sal_base::Bytes;
+use std::alloc::{AllocError, Global};
+
+/// Named bytes in memory. The calls with the listed numbers, counted from 1, fail.
+#[derive(Drop)]
+pub struct MemShelf {
+    files: Vec<MemFile>,
+    ledger: Ledger<MemSource, MemSink>,
+    calls: u64,
+    failing: Vec<u64>,
+    faults: u64,
+}
+
+fn find<'a>(files: &'a [MemFile], name: &[u8]) -> Option<&'a MemFile>
+    ensures { option_map (λ f. f.now.bytes) result ≡ bytes_under files.now name.now }
+{
+    for file in files {
+        if file.name.as_slice() == name {
+            return Some(file);
+        }
+    }
+    None
+}
+
+fn copied(alloc: Global, numbers: &Vec<u64>) -> Result<Vec<u64>, AllocError>
+    ensures { IfOk result (λ copy. copy.items ≡ numbers.now.items) }
+{
+    Vec::from_slice(alloc, numbers)
+}
+
+impl MemShelf {
+    /// These files, before the first call.
+    pub fn new(alloc: Global, files: Vec<MemFile>, failing: Vec<u64>) -> Self
+        ensures files { result.files ≡ files }
+        ensures shut { result.ledger.shut.items ≡ [] }
+        ensures calls { result.calls ≡ 0 }
+        ensures failing { result.failing ≡ failing }
+        ensures spare { result.ledger.spare ≡ 0 }
+        ensures faults { result.faults ≡ 0 }
+    {
+        MemShelf {
+            files,
+            ledger: Ledger::new(alloc),
+            calls: 0,
+            failing,
+            faults: 0,
+        }
+    }
+
+    /// What was shut, in order.
+    pub fn shut(&self) -> &[Shut<MemSource, MemSink>]
+        ensures { result.now ≡ self.now.ledger.shut.items }
+    {
+        self.ledger.shut()
+    }
+
+    // Whether this call is to fail, which it then counts.
+    fn fails(&mut self) -> bool
+        ensures files { self.new.files ≡ self.old.files }
+        ensures ledger { self.new.ledger ≡ self.old.ledger }
+        ensures quiet { OnFalse result (self.new.faults ≡ self.old.faults) }
+        ensures rose { OnTrue result (IsRaised self.old.faults self.new.faults) }
+    {
+        self.calls = self.calls.saturating_add(1);
+        let fails = self.failing.contains(&self.calls);
+        if fails {
+            self.fail();
+        }
+        fails
+    }
+
+    fn fail(&mut self)
+        ensures files { self.new.files ≡ self.old.files }
+        ensures ledger { self.new.ledger ≡ self.old.ledger }
+        ensures rose { IsRaised self.old.faults self.new.faults }
+    {
+        self.faults = self.faults.saturating_add(1);
+    }
+}
+
+impl Shelf for MemShelf {
+    type In = MemSource;
+
+    type Out = MemSink;
+
+    ghost holds = { λ s. bytes_under s.files.items };
+
+    ghost faults = { λ s. s.faults };
+
+    ghost spare = { λ s. s.ledger.spare };
+
+    ghost pasts = { λ s. map past_of s.ledger.shut.items };
+
+    fn faults(&self) -> u64 {
+        self.faults
+    }
+
+    fn open(&mut self, alloc: Global, name: &str) -> Result<MemSource, ShelfFault> {
+        if self.fails() {
+            return Err(ShelfFault::Failed);
+        }
+        let Some(file) = find(&self.files, name.as_bytes()) else {
+            self.fail();
+            return Err(ShelfFault::Failed);
+        };
+        let name = Bytes::from_slice(alloc, name.as_bytes()).map_err(|_| ShelfFault::Memory)?;
+        let bytes = Bytes::from_slice(alloc, file.bytes.as_slice()).map_err(
+            |_| ShelfFault::Memory,
+        )?;
+        let failing = copied(alloc, &file.failing).map_err(|_| ShelfFault::Memory)?;
+        self.ledger.reserve().map_err(|_| ShelfFault::Memory)?;
+        Ok(MemSource::new(name, bytes, failing))
+    }
+
+    fn create(&mut self, alloc: Global, name: &str) -> Result<MemSink, ShelfFault> {
+        if self.fails() {
+            return Err(ShelfFault::Failed);
+        }
+        let mut failing = Vec::new(alloc);
+        if let Some(file) = find(&self.files, name.as_bytes()) {
+            failing = copied(alloc, &file.failing).map_err(|_| ShelfFault::Memory)?;
+        }
+        let name = Bytes::from_slice(alloc, name.as_bytes()).map_err(|_| ShelfFault::Memory)?;
+        self.ledger.reserve().map_err(|_| ShelfFault::Memory)?;
+        Ok(MemSink::new(name, Bytes::new(alloc), failing))
+    }
+
+    fn shut_in(&mut self, source: MemSource) {
+        self.ledger.put(Shut::Source(source));
+    }
+
+    fn shut_out(&mut self, sink: MemSink) {
+        self.ledger.put(Shut::Sink(sink));
+    }
+}
