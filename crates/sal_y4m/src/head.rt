@@ -1,0 +1,52 @@
+//! The head of a clip.
+
+ghost use Rattle.std.specs.Prelude.{◌≡◌, IfSome};
+ghost use Rattle.sal_y4m.specs.Grammar.{header_of, sides_of, AreNarrow, IsNarrow};
+
+use sal_base::{MAX_HEIGHT, MAX_WIDTH, number};
+
+/// The sides of each picture, in samples of luma, and the rate: so many pictures in so many seconds.
+#[derive(Clone, Copy, Debug, PartialEq, Eq)]
+pub struct Head {
+    pub width: u16,
+    pub height: u16,
+    pub rate: (u32, u32),
+}
+
+// The samples of the largest picture that fits one datagram.
+const MOST_SAMPLES: u32 = 1195;
+
+// Sides within the limits, of a picture that fits one datagram.
+fn narrow(width: u32, height: u32) -> Option<(u16, u16)>
+    ensures value { result ≡ sides_of width height }
+    ensures within { IfSome result (λ sides. AreNarrow sides.0 sides.1) }
+{
+    if width < 1 || width > MAX_WIDTH as u32 || height < 1 || height > MAX_HEIGHT as u32 {
+        return None;
+    }
+    let chroma = width.div_ceil(2) * height.div_ceil(2);
+    if width * height + 2 * chroma > MOST_SAMPLES {
+        return None;
+    }
+    Some((width as u16, height as u16))
+}
+
+/// The head that a header line represents, without its newline.
+pub fn header(line: &[u8]) -> Option<Head>
+    ensures value { result ≡ header_of line.now }
+    ensures narrow { IfSome result IsNarrow }
+{
+    let rest = line.strip_prefix(b"YUV4MPEG2 W")?;
+    let (width, rest) = number(rest)?;
+    let rest = rest.strip_prefix(b" H")?;
+    let (height, rest) = number(rest)?;
+    if !rest.is_empty() {
+        return None;
+    }
+    let (width, height) = narrow(width, height)?;
+    Some(Head {
+        width,
+        height,
+        rate: (30, 1),
+    })
+}
