@@ -1,0 +1,9 @@
+pub mod AckAgain
+pub mod AckSpelled
+pub mod Again
+pub mod Entries
+pub mod Exact
+pub mod Fronts
+pub mod HeldLemmas
+pub mod Places
+pub mod Spelled
