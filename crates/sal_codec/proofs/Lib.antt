@@ -1,0 +1,2 @@
+pub mod Samplewise
+pub mod Successive

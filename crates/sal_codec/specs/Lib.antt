@@ -1,0 +1,4 @@
+pub mod Coding
+pub mod Plain
+pub mod Raw
+pub mod PlainLaws
