@@ -1,0 +1,13 @@
+//! States by number and name: what a sender keeps of its chain, and a receiver of what it decoded.
+#![tactic(auto)]
+
+mod kept;
+mod labels;
+mod rows;
+mod store;
+
+pub use labels::Labels;
+pub use store::Store;
+
+#[cfg(test)]
+mod tests;
