@@ -1,0 +1,10 @@
+pub mod BitExamples
+pub mod Finishing
+pub mod Laws
+pub mod Meaning
+pub mod Places
+pub mod Sending
+pub mod Settling
+pub mod Standing
+pub mod Windows
+pub mod Writing

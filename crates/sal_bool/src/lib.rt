@@ -1,0 +1,14 @@
+//! The boolean entropy coder: bits at their probabilities, read from bytes and written to them (RFC 6386, section 7).
+#![tactic(auto)]
+
+mod carry;
+mod decoder;
+mod encoder;
+mod range;
+mod tree;
+
+pub use decoder::Decoder;
+pub use encoder::Encoder;
+
+#[cfg(test)]
+mod tests;
