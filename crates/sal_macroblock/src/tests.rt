@@ -1,0 +1,21 @@
+use super::*;
+use sal_base::{SubMode, Vector, YMode};
+use std::test::Fail;
+
+#[test]
+fn a_macroblock_tells_its_kind(rt: HostRuntime) -> Result<(), Fail> {
+    let outside = MbMode::outside();
+    assert!(rt; !outside.is_inter());
+    assert!(rt; outside.has_y2());
+    let mut split = MbMode {
+        reference: RefKind::Golden,
+        y: YMode::SPLIT,
+        ..outside
+    };
+    split.vectors[15] = Vector { row: -3, column: 9 };
+    assert!(rt; split.is_inter());
+    assert!(rt; !split.has_y2());
+    assert_eq!(rt; split.vector(), Vector { row: -3, column: 9 });
+    assert_eq!(rt; outside.sub[7], SubMode::BDC);
+    Ok(())
+}
