@@ -1,0 +1,4 @@
+pub mod Hadamard
+pub mod Inverse
+pub mod Residue
+pub mod Steps
