@@ -1,0 +1,13 @@
+//! Intra prediction of blocks from the samples around them (RFC 6386, section 12). None takes memory.
+#![tactic(auto)]
+
+mod edge;
+mod sub;
+mod whole;
+
+pub use edge::{ChromaEdge, LumaEdge, SubEdge};
+pub use sub::predict_sub;
+pub use whole::{predict_chroma, predict_luma};
+
+#[cfg(test)]
+mod tests;

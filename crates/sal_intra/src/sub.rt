@@ -1,0 +1,230 @@
+//! Subblocks of 4 by 4 samples (RFC 6386, section 12.3).
+
+ghost use Rattle.std.specs.Prelude.{◌≡◌, ◌+◌, ◌<◌, ◌≤◌, IsTrue, length};
+ghost use Rattle.sal_base.specs.Samples.{IsBlockOf};
+ghost use Rattle.sal_intra.specs.Intra.{true_motion};
+ghost use Rattle.sal_intra.specs.Sub.{mean, third, sample_above, sample_left, edge_sample, means, thirds, round, step, sub_average, is_by_formula, right_rows, left_rows, down_rows, up_rows, sub_sample};
+
+use crate::edge::SubEdge;
+use crate::whole::{total, true_motion};
+use sal_base::SubMode;
+
+// The mean of two samples, rounded up.
+fn mean(x: u8, y: u8) -> u8
+    ensures { result ≡ mean x y }
+{
+    ((x as u16 + y as u16 + 1) / 2) as u8
+}
+
+// The mean of three samples of which the middle one counts twice.
+fn third(x: u8, y: u8, z: u8) -> u8
+    ensures { result ≡ third x y z }
+{
+    ((x as u16 + 2 * y as u16 + z as u16 + 2) / 4) as u8
+}
+
+fn sample_above(edge: &SubEdge, i: usize) -> u8
+    ensures { result ≡ sample_above edge.now i }
+{
+    edge.above[i.min(7)]
+}
+
+fn sample_left(edge: &SubEdge, i: usize) -> u8
+    ensures { result ≡ sample_left edge.now i }
+{
+    edge.left[i.min(3)]
+}
+
+// From the lowest sample left up to the corner, then to the right.
+fn edge_sample(edge: &SubEdge, i: usize) -> u8
+    ensures { result ≡ edge_sample edge.now i }
+{
+    if i < 4 {
+        sample_left(edge, 3 - i)
+    } else if i == 4 {
+        edge.corner
+    } else {
+        sample_above(edge, i - 5)
+    }
+}
+
+fn round(edge: &SubEdge, i: usize) -> u8
+    requires { (1 ≤ i) × (i ≤ 12) }
+    ensures { result ≡ round edge.now i }
+{
+    third(
+        edge_sample(edge, i - 1),
+        edge_sample(edge, i),
+        edge_sample(edge, i + 1),
+    )
+}
+
+fn step(edge: &SubEdge, i: usize) -> u8
+    requires { i ≤ 12 }
+    ensures { result ≡ step edge.now i }
+{
+    mean(edge_sample(edge, i), edge_sample(edge, i + 1))
+}
+
+fn above_mean(edge: &SubEdge, i: usize) -> u8
+    requires { i ≤ 12 }
+    ensures { result ≡ means (sample_above edge.now) i }
+{
+    mean(sample_above(edge, i), sample_above(edge, i + 1))
+}
+
+fn above_third(edge: &SubEdge, i: usize) -> u8
+    requires { i ≤ 12 }
+    ensures { result ≡ thirds (sample_above edge.now) i }
+{
+    third(
+        sample_above(edge, i),
+        sample_above(edge, i + 1),
+        sample_above(edge, i + 2),
+    )
+}
+
+fn left_mean(edge: &SubEdge, i: usize) -> u8
+    requires { i ≤ 12 }
+    ensures { result ≡ means (sample_left edge.now) i }
+{
+    mean(sample_left(edge, i), sample_left(edge, i + 1))
+}
+
+fn left_third(edge: &SubEdge, i: usize) -> u8
+    requires { i ≤ 12 }
+    ensures { result ≡ thirds (sample_left edge.now) i }
+{
+    third(
+        sample_left(edge, i),
+        sample_left(edge, i + 1),
+        sample_left(edge, i + 2),
+    )
+}
+
+fn right_rows(edge: &SubEdge) -> [u8; 16]
+    ensures { result ≡ right_rows edge.now }
+{
+    let d4 = step(edge, 4);
+    let d5 = step(edge, 5);
+    let d6 = step(edge, 6);
+    let d7 = step(edge, 7);
+    let e4 = round(edge, 4);
+    let e5 = round(edge, 5);
+    let e6 = round(edge, 6);
+    let e7 = round(edge, 7);
+    let e3 = round(edge, 3);
+    let e2 = round(edge, 2);
+    [
+        d4, d5, d6, d7, e4, e5, e6, e7, e3, d4, d5, d6, e2, e4, e5, e6,
+    ]
+}
+
+fn left_rows(edge: &SubEdge) -> [u8; 16]
+    ensures { result ≡ left_rows edge.now }
+{
+    let a0 = above_mean(edge, 0);
+    let a1 = above_mean(edge, 1);
+    let a2 = above_mean(edge, 2);
+    let a3 = above_mean(edge, 3);
+    let b0 = above_third(edge, 0);
+    let b1 = above_third(edge, 1);
+    let b2 = above_third(edge, 2);
+    let b3 = above_third(edge, 3);
+    let b4 = above_third(edge, 4);
+    let b5 = above_third(edge, 5);
+    [
+        a0, a1, a2, a3, b0, b1, b2, b3, a1, a2, a3, b4, b1, b2, b3, b5,
+    ]
+}
+
+fn down_rows(edge: &SubEdge) -> [u8; 16]
+    ensures { result ≡ down_rows edge.now }
+{
+    let d3 = step(edge, 3);
+    let e4 = round(edge, 4);
+    let e5 = round(edge, 5);
+    let e6 = round(edge, 6);
+    let d2 = step(edge, 2);
+    let e3 = round(edge, 3);
+    let d1 = step(edge, 1);
+    let e2 = round(edge, 2);
+    let d0 = step(edge, 0);
+    let e1 = round(edge, 1);
+    [
+        d3, e4, e5, e6, d2, e3, d3, e4, d1, e2, d2, e3, d0, e1, d1, e2,
+    ]
+}
+
+fn up_rows(edge: &SubEdge) -> [u8; 16]
+    ensures { result ≡ up_rows edge.now }
+{
+    let u0 = left_mean(edge, 0);
+    let w0 = left_third(edge, 0);
+    let u1 = left_mean(edge, 1);
+    let w1 = left_third(edge, 1);
+    let u2 = left_mean(edge, 2);
+    let w2 = left_third(edge, 2);
+    let l3 = sample_left(edge, 3);
+    [
+        u0, w0, u1, w1, u1, w1, u2, w2, u2, w2, l3, l3, l3, l3, l3, l3,
+    ]
+}
+
+fn sub_average(edge: &SubEdge) -> u8
+    ensures { result ≡ sub_average edge.now }
+{
+    ((total(&edge.above[..4]) + total(&edge.left) + 4) / 8) as u8
+}
+
+// A sample of a mode that is one formula of row and column.
+#[tactic(auto, unfolding(crate::specs::Sub::sub_sample))]
+fn sample(mode: SubMode, edge: &SubEdge, average: u8, row: usize, column: usize) -> u8
+    requires formula { IsTrue (is_by_formula mode) }
+    requires average { average ≡ sub_average edge.now }
+    requires row { row < 4 }
+    requires column { column < 4 }
+    ensures { result ≡ sub_sample mode edge.now row column }
+{
+    match mode {
+        SubMode::BTM => true_motion(
+            sample_left(edge, row),
+            sample_above(edge, column),
+            edge.corner,
+        ),
+        SubMode::BVE => round(edge, 5 + column),
+        SubMode::BHE => third(
+            edge_sample(edge, 4 - row),
+            sample_left(edge, row),
+            sample_left(edge, row + 1),
+        ),
+        SubMode::BLD => above_third(edge, row + column),
+        SubMode::BRD => round(edge, 4 - row + column),
+        _ => average,
+    }
+}
+
+fn by_formula(mode: SubMode, edge: &SubEdge) -> [u8; 16]
+    requires formula { IsTrue (is_by_formula mode) }
+    ensures { IsBlockOf 4 16 result (sub_sample mode edge.now) }
+{
+    let average = sub_average(edge);
+    let mut out = [0u8; 16];
+    for (k, x) in out.iter_mut().enumerate() {
+        *x = sample(mode, edge, average, k / 4, k % 4);
+    }
+    out
+}
+
+/// The samples of a subblock, row by row.
+pub fn predict_sub(mode: SubMode, edge: &SubEdge) -> [u8; 16]
+    ensures { IsBlockOf 4 16 result (sub_sample mode edge.now) }
+{
+    match mode {
+        SubMode::BVR => right_rows(edge),
+        SubMode::BVL => left_rows(edge),
+        SubMode::BHD => down_rows(edge),
+        SubMode::BHU => up_rows(edge),
+        _ => by_formula(mode, edge),
+    }
+}
