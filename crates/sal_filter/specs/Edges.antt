@@ -1,0 +1,101 @@
+-- The filters of one place of an edge, on the four samples before it and the four after it (RFC 6386, 15.2 and 15.3).
+use Rattle.std.specs.Prelude.{ℕ, ◌+◌, ◌*◌, ◌/◌, ℤ, pos, neg_ℤ, ◌+ℤ◌, ◌-ℤ◌, ◌*ℤ◌, Bool, ◌&&◌, ◌||◌, if◌then◌else◌, nat_le, nat_lt, unsigned_abs, ◌≤ℤ◌}
+use Rattle.sal_filter.specs.declared.across.Across.{Across}
+use Rattle.sal_macroblock.specs.Sizes.{Within}
+use Rattle.std.specs.Int.{int_min, int_max, int_shr}
+
+-- all eight samples are signed bytes
+pub record AreBytes (a : Across) : Type 0 where
+  pub p3 : Within 128 a.p3
+  pub p2 : Within 128 a.p2
+  pub p1 : Within 128 a.p1
+  pub p0 : Within 128 a.p0
+  pub q0 : Within 128 a.q0
+  pub q1 : Within 128 a.q1
+  pub q2 : Within 128 a.q2
+  pub q3 : Within 128 a.q3
+
+-- cut off to a signed byte
+abbrev pub s : ℤ → ℤ
+s x = int_min (pos 127) (int_max (neg_ℤ (pos 128)) x)
+
+-- how far two samples are apart
+abbrev pub distance : ℤ → ℤ → ℕ
+distance x y = unsigned_abs (x -ℤ y)
+
+-- an edge is filtered only where the step across it is small
+abbrev pub is_near : ℕ → Across → Bool
+is_near limit a = nat_le (2 * distance a.p0 a.q0 + distance a.p1 a.q1 / 2) limit
+
+-- and, but for the simple filter, neighbours on each side differ little
+abbrev pub is_smooth : ℕ → Across → Bool
+is_smooth limit a =
+    nat_le (distance a.p3 a.p2) limit && nat_le (distance a.p2 a.p1) limit && nat_le (distance a.p1 a.p0) limit
+    && nat_le (distance a.q3 a.q2) limit && nat_le (distance a.q2 a.q1) limit && nat_le (distance a.q1 a.q0) limit
+
+-- high variance next to the edge
+abbrev pub is_steep : ℕ → Across → Bool
+is_steep threshold a = nat_lt threshold (distance a.p1 a.p0) || nat_lt threshold (distance a.q1 a.q0)
+
+-- what the sample after the edge loses, and what the one before it gains
+unfoldable pub lost : ℤ → ℤ
+lost x = int_shr (s (x +ℤ pos 4)) 3
+
+unfoldable pub gained : ℤ → ℤ
+gained x = int_shr (s (x +ℤ pos 3)) 3
+
+-- the two nearest samples moved
+abbrev pub common : ℤ → Across → Across
+common x a = record a { q0 = s (a.q0 -ℤ lost x); p0 = s (a.p0 +ℤ gained x) }
+
+-- an adjustment by three times the step across the edge
+abbrev pub step : ℤ → Across → ℤ
+step outer a = s (outer +ℤ pos 3 *ℤ (a.q0 -ℤ a.p0))
+
+-- the simple filter (15.2)
+unfoldable pub simple : Across → Across
+simple a = common (step (s (a.p1 -ℤ a.q1)) a) a
+
+-- half of what is lost, rounded up
+unfoldable pub half_lost : ℤ → ℤ
+half_lost x = int_shr (lost x +ℤ pos 1) 1
+
+abbrev pub inner_step : Bool → Across → ℤ
+inner_step steep a = step (if steep then s (a.p1 -ℤ a.q1) else pos 0) a
+
+-- within a macroblock: without high variance the next two samples move by half as much
+unfoldable pub inner : Bool → Across → Across
+inner steep a =
+    let x = inner_step steep a in
+    let moved = common x a in
+    if steep then moved else record moved { q1 = s (a.q1 -ℤ half_lost x); p1 = s (a.p1 +ℤ half_lost x) }
+
+-- k parts in 128, rounded
+unfoldable pub part : ℕ → ℤ → ℤ
+part k w = s (int_shr ((pos k *ℤ w) +ℤ pos 63) 7)
+
+-- between macroblocks: without high variance three samples on each side move
+unfoldable pub outer : Bool → Across → Across
+outer steep a =
+    let w = step (s (a.p1 -ℤ a.q1)) a in
+    if steep then common w a
+    else record a {
+      q0 = s (a.q0 -ℤ part 27 w);
+      p0 = s (a.p0 +ℤ part 27 w);
+      q1 = s (a.q1 -ℤ part 18 w);
+      p1 = s (a.p1 +ℤ part 18 w);
+      q2 = s (a.q2 -ℤ part 9 w);
+      p2 = s (a.p2 +ℤ part 9 w);
+    }
+
+-- the three filters
+pub data Sort : Type 0 where
+  Simple : Sort
+  Inner : Sort
+  Outer : Sort
+
+-- one place, by the limits of its macroblock
+unfoldable pub place_filtered : Sort → ℕ → ℕ → ℕ → Across → Across
+place_filtered Simple edge interior threshold a = if is_near edge a then simple a else a
+place_filtered Inner edge interior threshold a = if is_near edge a && is_smooth interior a then inner (is_steep threshold a) a else a
+place_filtered Outer edge interior threshold a = if is_near edge a && is_smooth interior a then outer (is_steep threshold a) a else a

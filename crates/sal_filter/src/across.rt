@@ -1,0 +1,183 @@
+//! The filters of one place of an edge (RFC 6386, sections 15.2 and 15.3).
+
+ghost use Rattle.std.specs.Prelude.{◌≡◌, ◌+◌, ◌*◌, ◌≤◌, ◌<◌, ℤ, pos, neg_ℤ, ◌+ℤ◌, ◌-ℤ◌, ◌*ℤ◌, ◌≤ℤ◌};
+ghost use Rattle.std.specs.Int.{int_shr};
+ghost use Rattle.sal_macroblock.specs.Sizes.{Within};
+ghost use Rattle.sal_filter.specs.Edges.{AreBytes, s, distance, is_near, is_smooth, is_steep, lost, gained, common, step, simple, half_lost, inner_step, inner, part, outer};
+
+/// Samples less 128, by their distance from the edge: p before it, q after it.
+#[derive(Clone, Copy, Debug, PartialEq, Eq)]
+pub struct Across {
+    pub p3: i32,
+    pub p2: i32,
+    pub p1: i32,
+    pub p0: i32,
+    pub q0: i32,
+    pub q1: i32,
+    pub q2: i32,
+    pub q3: i32,
+}
+
+fn s(x: i32) -> i32
+    ensures value { result ≡ s x }
+    ensures small { Within 128 result }
+{
+    let low = if x < -128 { -128 } else { x };
+    if low < 127 { low } else { 127 }
+}
+
+#[tactic(auto, unfolding(crate::specs::Edges::lost))]
+fn lost(x: i32) -> i32
+    requires { Within 128 x }
+    ensures value { result ≡ lost x }
+    ensures small { Within 16 result }
+{
+    s(x + 4) >> 3
+}
+
+#[tactic(auto, unfolding(crate::specs::Edges::gained))]
+fn gained(x: i32) -> i32
+    requires { Within 128 x }
+    ensures value { result ≡ gained x }
+    ensures small { Within 16 result }
+{
+    s(x + 3) >> 3
+}
+
+fn moved(x: i32, by: i32) -> i32
+    requires x { Within 128 x }
+    requires by { Within 128 by }
+    ensures value { result ≡ s (x +ℤ by) }
+    ensures small { Within 128 result }
+{
+    s(x + by)
+}
+
+fn moved_back(x: i32, by: i32) -> i32
+    requires x { Within 128 x }
+    requires by { Within 128 by }
+    ensures value { result ≡ s (x -ℤ by) }
+    ensures small { Within 128 result }
+{
+    s(x - by)
+}
+
+fn step(outer: i32, p0: i32, q0: i32) -> i32
+    requires outer { Within 128 outer }
+    requires p0 { Within 128 p0 }
+    requires q0 { Within 128 q0 }
+    ensures value { result ≡ s (outer +ℤ pos 3 *ℤ (q0 -ℤ p0)) }
+    ensures small { Within 128 result }
+{
+    s(outer + 3 * (q0 - p0))
+}
+
+#[tactic(auto, unfolding(crate::specs::Edges::half_lost))]
+fn half_lost(x: i32) -> i32
+    requires { Within 128 x }
+    ensures value { result ≡ half_lost x }
+    ensures small { Within 16 result }
+{
+    (lost(x) + 1) >> 1
+}
+
+fn rounded_7(x: i32) -> i32
+    requires { Within 4096 x }
+    ensures value { result ≡ int_shr (x +ℤ pos 63) 7 }
+    ensures small { Within 128 result }
+{
+    (x + 63) >> 7
+}
+
+#[tactic(auto, unfolding(crate::specs::Edges::part))]
+fn part_27(w: i32) -> i32
+    requires { Within 128 w }
+    ensures value { result ≡ part 27 w }
+    ensures small { Within 128 result }
+{
+    s(rounded_7(27 * w))
+}
+
+#[tactic(auto, unfolding(crate::specs::Edges::part))]
+fn part_18(w: i32) -> i32
+    requires { Within 128 w }
+    ensures value { result ≡ part 18 w }
+    ensures small { Within 128 result }
+{
+    s(rounded_7(18 * w))
+}
+
+#[tactic(auto, unfolding(crate::specs::Edges::part))]
+fn part_9(w: i32) -> i32
+    requires { Within 128 w }
+    ensures value { result ≡ part 9 w }
+    ensures small { Within 128 result }
+{
+    s(rounded_7(9 * w))
+}
+
+// The two nearest samples moved.
+fn common(x: i32, a: Across) -> Across
+    requires x { Within 128 x }
+    requires bytes { AreBytes a }
+    ensures value { result ≡ common x a }
+{
+    let mut a = a;
+    a.q0 = moved_back(a.q0, lost(x));
+    a.p0 = moved(a.p0, gained(x));
+    a
+}
+
+/// The simple filter, which moves the two nearest samples.
+pub fn simple(a: Across) -> Across
+    requires bytes { AreBytes a }
+    ensures value { result ≡ simple a }
+{
+    let w = step(moved_back(a.p1, a.q1), a.p0, a.q0);
+    common(w, a)
+}
+
+/// The filter within a macroblock; without high variance it also moves the next two samples by half as much.
+pub fn inner(steep: bool, a: Across) -> Across
+    requires bytes { AreBytes a }
+    ensures value { result ≡ inner steep a }
+{
+    if steep {
+        return simple(a);
+    }
+    let w = step(0, a.p0, a.q0);
+    let (half, up, down) = (half_lost(w), gained(w), lost(w));
+    Across {
+        p3: a.p3,
+        p2: a.p2,
+        p1: moved(a.p1, half),
+        p0: moved(a.p0, up),
+        q0: moved_back(a.q0, down),
+        q1: moved_back(a.q1, half),
+        q2: a.q2,
+        q3: a.q3,
+    }
+}
+
+/// The filter between macroblocks; without high variance it moves three samples on each side.
+#[tactic(auto, unfolding(crate::specs::Edges::outer))]
+pub fn outer(steep: bool, a: Across) -> Across
+    requires bytes { AreBytes a }
+    ensures value { result ≡ outer steep a }
+{
+    let w = step(moved_back(a.p1, a.q1), a.p0, a.q0);
+    if steep {
+        return common(w, a);
+    }
+    let (near, middle, far) = (part_27(w), part_18(w), part_9(w));
+    Across {
+        p3: a.p3,
+        p2: moved(a.p2, far),
+        p1: moved(a.p1, middle),
+        p0: moved(a.p0, near),
+        q0: moved_back(a.q0, near),
+        q1: moved_back(a.q1, middle),
+        q2: moved_back(a.q2, far),
+        q3: a.q3,
+    }
+}
