@@ -1,0 +1,10 @@
+pub mod Front
+pub mod Key
+pub mod Script
+pub mod Session
+pub mod Shown
+pub mod Loop
+pub mod Run
+pub mod Reads
+pub mod Ends
+pub mod Top

@@ -1,0 +1,130 @@
+-- What the top call answers for `loop`, with the cause of each status and what OUT then holds.
+use Rattle.std.specs.Prelude.{◌≡◌, ◌⊎◌, ℕ, List, [], ◌∷◌, ◌++◌, Option, Some, is_some, true, Result, Ok, Err, codes}
+use Rattle.std.specs.List.{AllByRecursion}
+use Rattle.sal_io.specs.Past.{Past}
+use Rattle.sal_io.specs.Past.Past.{In, Out}
+use Rattle.sal_io.specs.Calls.{Rose}
+use Rattle.sal_app.specs.declared.status.Named.{Named}
+use Rattle.sal_app.specs.declared.status.Named.TheVariants.{Word}
+use Rattle.sal_app.specs.declared.status.Status.{Status}
+use Rattle.sal_app.specs.declared.status.Status.TheVariants as status
+use Rattle.sal_app.specs.declared.status.Stop.{Stop}
+use Rattle.sal_app.specs.declared.status.Stop.TheVariants as stop
+use Rattle.sal_io.specs.declared.answers.ShelfFault.{ShelfFault}
+use Rattle.sal_io.specs.declared.answers.ShelfFault.TheVariants as shelf
+use Rattle.sal_app.specs.Loop.{End, Done, BadInput, BadScript, TooMany, loop_end}
+use Rattle.sal_app.specs.Ends.{Told, Ends, SoFarOrNot, UpToNextOrNot, CutOff}
+use Rattle.sal_app.specs.Run.{IsNothing}
+
+-- what is known of IN, SCRIPT and OUT as they were shut: what the sources had left, what the sink holds, and the counts
+-- of faults
+pub record Files : Type 0 where
+  pub input_left : Option (List ℕ)
+  pub input_faults : ℕ
+  pub script_left : Option (List ℕ)
+  pub script_faults : ℕ
+  pub held : Option (List ℕ)
+  pub out_faults : ℕ
+
+module _ (input script output : List ℕ) (holds : List ℕ → Option (List ℕ)) (before after : List Past) where
+  -- all three were opened, and shut in this order
+  abbrev pub Shut : Files → Type 0
+  Shut f = after ≡ ((before ++ In input (holds input) f.input_left f.input_faults ∷ []) ++ In script (holds script) f.script_left f.script_faults ∷ []) ++ Out output f.held f.out_faults ∷ []
+
+  -- of the bytes of IN, SCRIPT and OUT, where the shelf tells what it has under the first two names and OUT what it holds
+  abbrev pub Of : Files → (List ℕ → List ℕ → List ℕ → Type 0) → Type 0
+  Of f P = Told (holds input) (holds script) f.held P
+
+  -- all were opened and shut, the run ended so, and OUT holds what it then holds
+  abbrev pub Ended : End → Type 0
+  Ended end = (f : Files) × Shut f × Of f (Ends end)
+
+  -- none was opened; or IN alone, from which nothing was read; or IN and SCRIPT
+  abbrev pub ShutNone : Type 0
+  ShutNone = after ≡ before
+
+  abbrev pub ShutInput : Type 0
+  ShutInput = after ≡ before ++ In input (holds input) (holds input) 0 ∷ []
+
+  abbrev pub ShutBoth : Type 0
+  ShutBoth = after ≡ (before ++ In input (holds input) (holds input) 0 ∷ []) ++ In script (holds script) (holds script) 0 ∷ []
+
+  -- the first word, in the order of opening, whose object isn't among those opened and shut
+  abbrev pub FirstUnopened : Named → Type 0
+  FirstUnopened name = ((name ≡ Word 1) × ShutNone) ⊎ (((name ≡ Word 2) × ShutInput) ⊎ ((name ≡ Word 3) × ShutBoth))
+
+  -- each status with its cause; the counts of the shelf were these before and after
+  abbrev pub LoopAnswers : ℕ → ℕ → Status → Type 0
+  -- all lines were run, and IN and SCRIPT were read to their ends
+  LoopAnswers faults faults' status.Ok = (f : Files) × Shut f × Of f (Ends Done) × IsNothing f.input_left × IsNothing f.script_left
+  LoopAnswers faults faults' status.Usage = ⊥
+  LoopAnswers faults faults' (status.BadInput name place why) = (name ≡ Word 1) × Ended (BadInput place why)
+  LoopAnswers faults faults' (status.BadScript line) = Ended (BadScript line)
+  LoopAnswers faults faults' status.TooMany = Ended TooMany
+  -- the count of that source rose from 0; OUT holds what the events before a `next` make it hold, or nothing
+  LoopAnswers faults faults' (status.ReadFault name) =
+      (f : Files) × Shut f × (((name ≡ Word 1) × Rose 0 f.input_faults × Of f UpToNextOrNot) ⊎ ((name ≡ Word 2) × Rose 0 f.script_faults × IsNothing f.held))
+  -- the count of OUT rose from 0, and it holds a front of what some events make it hold
+  LoopAnswers faults faults' (status.WriteFault name) = (f : Files) × Shut f × (name ≡ Word 3) × Rose 0 f.out_faults × Of f CutOff
+  LoopAnswers faults faults' (status.OpenFault name) = Rose faults faults' × FirstUnopened name
+  -- what was opened was shut, and OUT holds what the events before make it hold, or nothing
+  LoopAnswers faults faults' status.Memory = ShutNone ⊎ (ShutInput ⊎ (ShutBoth ⊎ ((f : Files) × Shut f × Of f SoFarOrNot)))
+
+-- what the end of a run is as a status
+abbrev pub StatusOf : Result (Unit {0}) Stop → Status → Type 0
+StatusOf (Ok x) s = s ≡ status.Ok
+StatusOf (Err (stop.BadInput place why)) s = s ≡ status.BadInput (Word 1) place why
+StatusOf (Err (stop.BadScript line)) s = s ≡ status.BadScript line
+StatusOf (Err stop.InputFault) s = s ≡ status.ReadFault (Word 1)
+StatusOf (Err stop.ScriptFault) s = s ≡ status.ReadFault (Word 2)
+StatusOf (Err stop.WriteFault) s = s ≡ status.WriteFault (Word 3)
+StatusOf (Err stop.TooMany) s = s ≡ status.TooMany
+StatusOf (Err stop.Memory) s = s ≡ status.Memory
+
+-- what a file that wasn't opened is as a status
+abbrev pub Unopened : ShelfFault → Named → Status → Type 0
+Unopened shelf.Failed name s = s ≡ status.OpenFault name
+Unopened shelf.Memory name s = s ≡ status.Memory
+
+-- `loop` and three names
+abbrev pub IsLoop : List (List ℕ) → (List ℕ → List ℕ → List ℕ → Type 0) → Type 0
+IsLoop (command ∷ input ∷ script ∷ output ∷ []) P = (command ≡ codes "loop") × P input script output
+IsLoop words P = ⊥
+
+-- what the top call answers: Usage exactly where the words aren't `loop` and three names, with all as it was; else the
+-- answers of `loop`
+abbrev pub Answers : List (List ℕ) → (List ℕ → Option (List ℕ)) → List Past → List Past → ℕ → ℕ → Status → Type 0
+Answers words holds before after faults faults' s =
+    IsLoop words (λ input script output. LoopAnswers input script output holds before after faults faults' s)
+    ⊎ ((IsLoop words (λ input script output. Unit {0}) → ⊥) × (s ≡ status.Usage) × (after ≡ before) × (faults' ≡ faults))
+
+-- how a run ends as a status
+abbrev pub status_of : End → Status
+status_of Done = status.Ok
+status_of (BadInput place why) = status.BadInput (Word 1) place why
+status_of (BadScript line) = status.BadScript line
+status_of TooMany = status.TooMany
+
+abbrev pub faults_of : Past → ℕ
+faults_of (In name had left faults) = faults
+faults_of (Out name held faults) = faults
+
+-- the counts of the shelf and of all that was opened stood still
+pub record IsQuiet (before after : List Past) (faults faults' : ℕ) : Type 0 where
+  pub shelf_quiet : Rose faults faults' → ⊥
+  pub files_quiet : (news : List Past) → after ≡ before ++ news → AllByRecursion (λ past. faults_of past ≡ 0) news
+
+-- each sink that was shut tells what it holds
+abbrev pub Tells : Past → Type 0
+Tells (In name had left faults) = Unit {0}
+Tells (Out name held faults) = is_some held ≡ true
+
+abbrev pub TellsOut : List Past → List Past → Type 0
+TellsOut before after = (news : List Past) → after ≡ before ++ news → AllByRecursion Tells news
+
+-- completeness: where the words are `loop` and three names, the shelf tells what it has under the first two, OUT tells
+-- what it holds, and no count rose, the answer is how the run ends, or Memory
+abbrev pub IsComplete : List (List ℕ) → (List ℕ → Option (List ℕ)) → List Past → List Past → ℕ → ℕ → Status → Type 0
+IsComplete words holds before after faults faults' s =
+    (i o : List ℕ) → IsLoop words (λ input script output. (holds input ≡ Some i) × (holds script ≡ Some o)) → TellsOut before after → IsQuiet before after faults faults'
+    → (s ≡ status_of (loop_end i o)) ⊎ (s ≡ status.Memory)

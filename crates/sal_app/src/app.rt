@@ -1,0 +1,135 @@
+//! The top call: words, files, and the status.
+
+ghost use Rattle.std.specs.Prelude.{◌≡◌, ◌≤◌, ◌↔◌, IsTrue, map, codes, string_bytes};
+ghost use Rattle.sal_app.specs.Top.{LoopAnswers, Answers, IsComplete, StatusOf, Unopened};
+
+use crate::looping::run_loop;
+use crate::status::{Named, Status, Stop};
+use sal_io::{Host, Shelf, ShelfFault};
+use sal_y4m::{Reader, Writer};
+use std::alloc::Global;
+use std::sync::Wait;
+use std::thread::Threads;
+
+// The words that name IN, SCRIPT and OUT.
+const INPUT: Named = Named::Word(1);
+
+const SCRIPT: Named = Named::Word(2);
+
+const OUTPUT: Named = Named::Word(3);
+
+// The status of a file that wasn't opened.
+fn unopened(fault: ShelfFault, name: Named) -> Status
+    ensures { Unopened fault name result }
+{
+    match fault {
+        ShelfFault::Failed => Status::OpenFault(name),
+        ShelfFault::Memory => Status::Memory,
+    }
+}
+
+// The status of a run.
+fn status_of(end: Result<(), Stop>) -> Status
+    ensures { StatusOf end result }
+{
+    match end {
+        Ok(()) => Status::Ok,
+        Err(Stop::BadInput(place, why)) => Status::BadInput(INPUT, place, why),
+        Err(Stop::BadScript(line)) => Status::BadScript(line),
+        Err(Stop::InputFault) => Status::ReadFault(INPUT),
+        Err(Stop::ScriptFault) => Status::ReadFault(SCRIPT),
+        Err(Stop::WriteFault) => Status::WriteFault(OUTPUT),
+        Err(Stop::TooMany) => Status::TooMany,
+        Err(Stop::Memory) => Status::Memory,
+    }
+}
+
+// Opens the three files in the order of the words, runs `loop`, and shuts them in that order.
+fn run_files<F: Shelf>(
+    alloc: Global,
+    input: &str,
+    script: &str,
+    output: &str,
+    files: &mut F,
+) -> Status
+    ensures answers { LoopAnswers input.now script.now output.now (F.holds files.old) (F.pasts files.old) (F.pasts files.new) (F.faults files.old) (F.faults files.new) result }
+    ensures later { F.faults files.old ≤ F.faults files.new }
+    ensures holds { F.holds files.new ≡ F.holds files.old }
+    ensures spare { F.spare files.new ≡ F.spare files.old }
+{
+    let source = match files.open(alloc, input) {
+        Ok(source) => source,
+        Err(fault) => return unopened(fault, INPUT),
+    };
+    let mut lines = match files.open(alloc, script) {
+        Ok(lines) => lines,
+        Err(fault) => {
+            files.shut_in(source);
+            return unopened(fault, SCRIPT);
+        }
+    };
+    let sink = match files.create(alloc, output) {
+        Ok(sink) => sink,
+        Err(fault) => {
+            files.shut_in(source);
+            files.shut_in(lines);
+            return unopened(fault, OUTPUT);
+        }
+    };
+    let mut pictures = Reader::new(source);
+    let mut out = Writer::new(sink);
+    let mut sent = Vec::new(alloc);
+    let end = run_loop(alloc, &mut pictures, &mut lines, &mut out, &mut sent);
+    files.shut_in(pictures.into_source());
+    files.shut_in(lines);
+    files.shut_out(out.into_sink());
+    status_of(end)
+}
+
+// Whether a word is the command.
+fn is_loop(word: &str) -> bool
+    ensures { IsTrue result ↔ (word.now ≡ codes "loop") }
+{
+    word == "loop"
+}
+
+/// Serves `loop IN SCRIPT OUT`, and always returns. The words are those after the program's name. All that was opened
+/// is shut, in the order of opening, before the call answers.
+pub fn salsify_alone<F: Shelf>(alloc: Global, words: &[String], host: &mut Host<F>) -> Status
+    ensures answers { Answers (map string_bytes words.now) (F.holds host.old.files) (F.pasts host.old.files) (F.pasts host.new.files) (F.faults host.old.files) (F.faults host.new.files) result }
+    ensures complete { IsComplete (map string_bytes words.now) (F.holds host.old.files) (F.pasts host.old.files) (F.pasts host.new.files) (F.faults host.old.files) (F.faults host.new.files) result }
+    ensures later { F.faults host.old.files ≤ F.faults host.new.files }
+    ensures holds { F.holds host.new.files ≡ F.holds host.old.files }
+    ensures spare { F.spare host.new.files ≡ F.spare host.old.files }
+{
+    let [command, input, script, output] = words else {
+        return Status::Usage;
+    };
+    let known = is_loop(command.as_str());
+    if !known {
+        return Status::Usage;
+    }
+    run_files(
+        alloc,
+        input.as_str(),
+        script.as_str(),
+        output.as_str(),
+        &mut host.files,
+    )
+}
+
+/// Serves what `salsify_alone` serves, with threads at hand.
+pub fn salsify<R: Threads + Wait + Sync, F: Shelf>(
+    _rt: &R,
+    alloc: Global,
+    words: &[String],
+    host: &mut Host<F>,
+) -> Status
+    ensures answers { Answers (map string_bytes words.now) (F.holds host.old.files) (F.pasts host.old.files) (F.pasts host.new.files) (F.faults host.old.files) (F.faults host.new.files) result }
+    ensures complete { IsComplete (map string_bytes words.now) (F.holds host.old.files) (F.pasts host.old.files) (F.pasts host.new.files) (F.faults host.old.files) (F.faults host.new.files) result }
+    ensures later { F.faults host.old.files ≤ F.faults host.new.files }
+    ensures holds { F.holds host.new.files ≡ F.holds host.old.files }
+    ensures spare { F.spare host.new.files ≡ F.spare host.old.files }
+{
+    salsify_alone(alloc, words, host)
+}

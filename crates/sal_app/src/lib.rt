@@ -1,0 +1,17 @@
+//! The top call.
+#![tactic(auto)]
+
+mod app;
+mod key;
+mod looping;
+mod run;
+mod script;
+mod session;
+mod status;
+
+pub use app::{salsify, salsify_alone};
+pub use looping::run_loop;
+pub use status::{Named, Status, Stop};
+
+#[cfg(test)]
+mod tests;

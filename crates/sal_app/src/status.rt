@@ -1,0 +1,66 @@
+//! How the program ends.
+
+use sal_y4m::Why;
+
+/// What a status is about.
+#[derive(Clone, Copy, Debug, PartialEq, Eq)]
+pub enum Named {
+    /// The word of this index, from 0.
+    Word(u32),
+    /// The screen.
+    Screen,
+}
+
+/// How the program ends.
+#[derive(Clone, Copy, Debug, PartialEq, Eq)]
+pub enum Status {
+    /// All lines were run, and the input was read to its end.
+    Ok,
+    /// The words aren't in the grammar.
+    Usage,
+    /// The input isn't in the grammar: at this byte, for this reason.
+    BadInput(Named, u64, Why),
+    /// This line of the script, counted from 1, isn't in the grammar, needs a picture and none is left, or names a
+    /// number that wasn't sent.
+    BadScript(u32),
+    /// This source failed.
+    ReadFault(Named),
+    /// This sink failed.
+    WriteFault(Named),
+    /// This file wasn't opened.
+    OpenFault(Named),
+    /// The input has more pictures than a session takes.
+    TooMany,
+    Memory,
+}
+
+impl Status {
+    /// The number that the program ends with.
+    pub fn number(self) -> u8 {
+        match self {
+            Status::Ok => 0,
+            Status::Usage => 2,
+            Status::BadInput(..) => 3,
+            Status::BadScript(_) => 4,
+            Status::ReadFault(_) => 6,
+            Status::WriteFault(_) => 7,
+            Status::OpenFault(_) => 8,
+            Status::TooMany => 12,
+            Status::Memory => 15,
+        }
+    }
+}
+
+/// Why a run stops.
+#[derive(Clone, Copy, Debug, PartialEq, Eq)]
+pub enum Stop {
+    BadInput(u64, Why),
+    BadScript(u32),
+    /// The source of pictures failed.
+    InputFault,
+    /// The source of the script failed.
+    ScriptFault,
+    WriteFault,
+    TooMany,
+    Memory,
+}
