@@ -1,7 +1,7 @@
 #!/usr/bin/env python3
 """Compares every digit of sal_tables, in its code and in its definitions, with the profile of VP8 that fixes them.
 
-The profile is the file that SALSIFY_PROFILE names, or ../shared/papers/vp8-profile.md beside this repository. Where there is none,
+The profile is the file that SALSIFY_PROFILE names, or a vp8-*.md in a folder of ../shared beside this repository. Where there is none,
 one line says so and nothing is compared. It ends with status 1 where a digit differs, and names each such place."""
 import os
 import re
@@ -10,7 +10,7 @@ from pathlib import Path
 
 ROOT = Path(__file__).resolve().parent.parent
 CRATE = ROOT / "crates" / "sal_tables"
-PROFILE = Path(os.environ.get("SALSIFY_PROFILE") or ROOT.parent / "shared" / "papers" / "vp8-profile.md")
+PROFILE = Path(os.environ.get("SALSIFY_PROFILE") or next(ROOT.parent.glob("shared/*/vp8-*.md"), ""))
 
 # Leaves in the order of their numbers. The profile numbers the subblock modes; the other orders are ours.
 LEAVES = {
