@@ -141,7 +141,7 @@ next_many there n line whole later e lt =
     (rw (a, b, c) refl, rw (a, b) refl)
 
 -- what a run that a `next` stopped gives, of the bytes that were there
-next_gives : (why : Stop) (i body l l' : List ℕ) (told' : Option (List ℕ)) (head : Head) (lines before later : List ScriptLine) (shot : List Picture) (o : List ℕ)
+pub next_gives : (why : Stop) (i body l l' : List ℕ) (told' : Option (List ℕ)) (head : Head) (lines before later : List ScriptLine) (shot : List Picture) (o : List ℕ)
     → header_at i ≡ Some (head, body) → lines ≡ before ++ Next ∷ later → Repeats (picture_at head) body shot l → started before ≡ length shot → Runs 0 before → length shot ≤ most_pictures
     → o ≡ out_text head shot before → NextStops why (length before + 1) head shot (Some l) told' → ClipGives (Err why) lines (Some i) (Some o)
 next_gives (stop.BadScript n) i body l l' told' head lines before later shot o header all read count runs few written why =
@@ -188,7 +188,7 @@ some_same : (a b : List ℕ) → Some a ≡ Some b → a ≡ b
 some_same a b e = cc
 
 -- what a run that a `down` stopped gives
-down_gives : (why : Stop) (i body l : List ℕ) (head : Head) (lines before later : List ScriptLine) (k last : ℕ) (shot : List Picture) (h h' : List ℕ)
+pub down_gives : (why : Stop) (i body l : List ℕ) (head : Head) (lines before later : List ScriptLine) (k last : ℕ) (shot : List Picture) (h h' : List ℕ)
     → header_at i ≡ Some (head, body) → lines ≡ before ++ Down k ∷ later → Repeats (picture_at head) body shot l → started before ≡ length shot → Runs 0 before → length shot ≤ most_pictures
     → last ≡ last_after 0 before → h ≡ out_text head shot before → DownStops why (length before + 1) k shot (Some h) (Some h') last → ClipGives (Err why) lines (Some i) (Some h')
 down_gives (stop.BadScript n) i body l head lines before later k last shot h h' header all read count runs few greatest written why =
@@ -336,7 +336,7 @@ pics_all head body ys shot read long =
     pics_of head body ys shot read (omega (arith, long)) ∙ ap (λ (k : ℕ). joined shot (front (picture_at head) k ys)) zero_left ∙ ap (λ (xs : List Picture). (xs, ys)) (append-nil shot)
 
 -- what a run over all lines gives, of the bytes that were there
-all_gives : (r : Result (Unit {0}) Stop) (i body l : List ℕ) (l' : Option (List ℕ)) (head : Head) (lines : List ScriptLine) (shot : List Picture) (n : ℕ) (o : List ℕ)
+pub all_gives : (r : Result (Unit {0}) Stop) (i body l : List ℕ) (l' : Option (List ℕ)) (head : Head) (lines : List ScriptLine) (shot : List Picture) (n : ℕ) (o : List ℕ)
     → header_at i ≡ Some (head, body) → Repeats (picture_at head) body shot l → started lines ≡ length shot → Runs 0 lines → length shot ≤ most_pictures → n ≡ length shot
     → o ≡ out_text head shot lines → RestGives r head n (Some l) l' → ClipGives r lines (Some i) (Some o)
 all_gives (Ok x) i body l None head lines shot n o header read count runs few e written rest = absurd rest.1

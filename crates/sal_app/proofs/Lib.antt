@@ -5,4 +5,5 @@ pub mod SessionLemmas
 pub mod ThreadLemmas
 pub mod RunLemmas
 pub mod EndLemmas
+pub mod EndingLemmas
 pub mod TopLemmas

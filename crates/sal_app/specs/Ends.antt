@@ -1,5 +1,5 @@
 -- What a run of `loop` gives, by how it ends: of the bytes that IN and SCRIPT had, and of those that OUT then holds.
-use Rattle.std.specs.Prelude.{◌≡◌, ◌⊎◌, ℕ, ◌≤◌, List, [], ◌∷◌, ◌++◌, length, take, true, Option, Some, IfSome, Result, Ok, Err}
+use Rattle.std.specs.Prelude.{◌≡◌, ◌⊎◌, ℕ, ◌≤◌, List, [], ◌∷◌, ◌++◌, length, take, true, Option, Some, None, IfSome, Result, Ok, Err}
 use Rattle.sal_base.specs.declared.picture.Picture.{Picture}
 use Rattle.sal_io.specs.Told.{Repeats, ReadsAs, Lacks}
 use Rattle.sal_y4m.specs.declared.head.Head.{Head}
@@ -47,6 +47,21 @@ UpToNext lines i o = (before : List ScriptLine) × ((later : List ScriptLine) ×
 abbrev pub Cut : List ScriptLine → List ℕ → List ℕ → Type 0
 Cut lines i o = (whole : List ℕ) × ((n : ℕ) × Partly lines i whole × (o ≡ take n whole))
 
+-- the end that a result tells; faults of the outside and want of memory tell none
+abbrev pub end_of : Result (Unit {0}) Stop → Option End
+end_of (Ok x) = Some Done
+end_of (Err (stop.BadInput place why)) = Some (BadInput place why)
+end_of (Err (stop.BadScript line)) = Some (BadScript line)
+end_of (Err stop.TooMany) = Some TooMany
+end_of (Err stop.InputFault) = None
+end_of (Err stop.ScriptFault) = None
+end_of (Err stop.WriteFault) = None
+end_of (Err stop.Memory) = None
+
+-- the lines over the input end as the result tells, whatever is known of OUT
+abbrev pub ClipEnding : Result (Unit {0}) Stop → List ScriptLine → Option (List ℕ) → Type 0
+ClipEnding r lines input = IfSome (end_of r) (λ end. IfSome input (λ i. clip_end (header_at i) lines ≡ end))
+
 abbrev pub ClipEnds : End → List ScriptLine → List ℕ → List ℕ → Type 0
 ClipEnds end lines i o = (clip_end (header_at i) lines ≡ end) × (o ≡ clip_out (header_at i) lines)
 
@@ -74,6 +89,14 @@ Told input script out P = IfSome input (λ i. IfSome script (λ s. IfSome out (P
 -- the run ended so, and OUT holds what it then holds
 abbrev pub Ends : End → List ℕ → List ℕ → List ℕ → Type 0
 Ends end i s o = (loop_end i s ≡ end) × (o ≡ loop_out i s)
+
+-- the run ended so, whatever is known of OUT
+abbrev pub EndsSo : End → Option (List ℕ) → Option (List ℕ) → Type 0
+EndsSo end input script = IfSome input (λ i. IfSome script (λ s. loop_end i s ≡ end))
+
+-- the run ended as the result tells
+abbrev pub Ending : Result (Unit {0}) Stop → Option (List ℕ) → Option (List ℕ) → Type 0
+Ending r input script = IfSome (end_of r) (λ end. EndsSo end input script)
 
 -- OUT holds the header and the pictures shown by the events before, or nothing
 abbrev pub SoFarOrNot : List ℕ → List ℕ → List ℕ → Type 0

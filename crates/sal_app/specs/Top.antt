@@ -1,5 +1,5 @@
 -- What the top call answers for `loop`, with the cause of each status and what OUT then holds.
-use Rattle.std.specs.Prelude.{◌≡◌, ◌⊎◌, ℕ, List, [], ◌∷◌, ◌++◌, Option, Some, is_some, true, Result, Ok, Err, codes}
+use Rattle.std.specs.Prelude.{◌≡◌, ◌⊎◌, ℕ, List, [], ◌∷◌, ◌++◌, Option, Some, Result, Ok, Err, codes}
 use Rattle.std.specs.List.{AllByRecursion}
 use Rattle.sal_io.specs.Past.{Past}
 use Rattle.sal_io.specs.Past.Past.{In, Out}
@@ -13,7 +13,7 @@ use Rattle.sal_app.specs.declared.status.Stop.TheVariants as stop
 use Rattle.sal_io.specs.declared.answers.ShelfFault.{ShelfFault}
 use Rattle.sal_io.specs.declared.answers.ShelfFault.TheVariants as shelf
 use Rattle.sal_app.specs.Loop.{End, Done, BadInput, BadScript, TooMany, loop_end}
-use Rattle.sal_app.specs.Ends.{Told, Ends, SoFarOrNot, UpToNextOrNot, CutOff}
+use Rattle.sal_app.specs.Ends.{Told, Ends, EndsSo, SoFarOrNot, UpToNextOrNot, CutOff}
 use Rattle.sal_app.specs.Run.{IsNothing}
 
 -- what is known of IN, SCRIPT and OUT as they were shut: what the sources had left, what the sink holds, and the counts
@@ -37,7 +37,7 @@ module _ (input script output : List ℕ) (holds : List ℕ → Option (List ℕ
 
   -- all were opened and shut, the run ended so, and OUT holds what it then holds
   abbrev pub Ended : End → Type 0
-  Ended end = (f : Files) × Shut f × Of f (Ends end)
+  Ended end = (f : Files) × Shut f × EndsSo end (holds input) (holds script) × Of f (Ends end)
 
   -- none was opened; or IN alone, from which nothing was read; or IN and SCRIPT
   abbrev pub ShutNone : Type 0
@@ -56,7 +56,8 @@ module _ (input script output : List ℕ) (holds : List ℕ → Option (List ℕ
   -- each status with its cause; the counts of the shelf were these before and after
   abbrev pub LoopAnswers : ℕ → ℕ → Status → Type 0
   -- all lines were run, and IN and SCRIPT were read to their ends
-  LoopAnswers faults faults' status.Ok = (f : Files) × Shut f × Of f (Ends Done) × IsNothing f.input_left × IsNothing f.script_left
+  LoopAnswers faults faults' status.Ok =
+      (f : Files) × Shut f × EndsSo Done (holds input) (holds script) × Of f (Ends Done) × IsNothing f.input_left × IsNothing f.script_left
   LoopAnswers faults faults' status.Usage = ⊥
   LoopAnswers faults faults' (status.BadInput name place why) = (name ≡ Word 1) × Ended (BadInput place why)
   LoopAnswers faults faults' (status.BadScript line) = Ended (BadScript line)
@@ -114,17 +115,9 @@ pub record IsQuiet (before after : List Past) (faults faults' : ℕ) : Type 0 wh
   pub shelf_quiet : Rose faults faults' → ⊥
   pub files_quiet : (news : List Past) → after ≡ before ++ news → AllByRecursion (λ past. faults_of past ≡ 0) news
 
--- each sink that was shut tells what it holds
-abbrev pub Tells : Past → Type 0
-Tells (In name had left faults) = Unit {0}
-Tells (Out name held faults) = is_some held ≡ true
-
-abbrev pub TellsOut : List Past → List Past → Type 0
-TellsOut before after = (news : List Past) → after ≡ before ++ news → AllByRecursion Tells news
-
--- completeness: where the words are `loop` and three names, the shelf tells what it has under the first two, OUT tells
--- what it holds, and no count rose, the answer is how the run ends, or Memory
+-- completeness: where the words are `loop` and three names, the shelf tells what it has under the first two, and no
+-- count rose, the answer is how the run ends, or Memory
 abbrev pub IsComplete : List (List ℕ) → (List ℕ → Option (List ℕ)) → List Past → List Past → ℕ → ℕ → Status → Type 0
 IsComplete words holds before after faults faults' s =
-    (i o : List ℕ) → IsLoop words (λ input script output. (holds input ≡ Some i) × (holds script ≡ Some o)) → TellsOut before after → IsQuiet before after faults faults'
+    (i o : List ℕ) → IsLoop words (λ input script output. (holds input ≡ Some i) × (holds script ≡ Some o)) → IsQuiet before after faults faults'
     → (s ≡ status_of (loop_end i o)) ⊎ (s ≡ status.Memory)

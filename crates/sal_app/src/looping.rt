@@ -6,7 +6,7 @@ ghost use Rattle.sal_y4m.specs.Grammar.{IsNarrow, head_text};
 ghost use Rattle.sal_y4m.specs.Answers.{Writes};
 ghost use Rattle.sal_app.specs.Script.{most_script};
 ghost use Rattle.sal_app.specs.Run.{StopOf, IsNothing};
-ghost use Rattle.sal_app.specs.Ends.{ClipGives, RunGives, AtEnd, HeadGives, OneSession};
+ghost use Rattle.sal_app.specs.Ends.{ClipGives, ClipEnding, RunGives, Ending, AtEnd, HeadGives, OneSession};
 
 use crate::run::{play, rest, stop_of};
 use crate::script::{ScriptLine, read_script};
@@ -59,6 +59,7 @@ fn run_lines<S: Source, K: Sink>(
     requires empty { sent.old.items ≡ [] }
     requires nothing { IsNothing (K.held out.old.sink) }
     ensures gives { ClipGives result lines.now (S.left pictures.old.source) (K.held out.new.sink) }
+    ensures ending { ClipEnding result lines.now (S.left pictures.old.source) }
     ensures end { AtEnd result (S.left pictures.new.source) }
     ensures session { OnOk result (OneSession (S.left pictures.old.source) sent.new.items) }
     ensures cause { HasCause (Err Stop.InputFault) (S.faults pictures.old.source) (S.faults pictures.new.source) result }
@@ -95,6 +96,7 @@ pub fn run_loop<S: Source, T: Source, K: Sink>(
     requires empty { sent.old.items ≡ [] }
     requires nothing { IsNothing (K.held out.old.sink) }
     ensures gives { RunGives result (S.left pictures.old.source) (T.left script.old) (K.held out.new.sink) }
+    ensures ending { Ending result (S.left pictures.old.source) (T.left script.old) }
     ensures end { AtEnd result (S.left pictures.new.source) }
     ensures script_end { AtEnd result (T.left script.new) }
     ensures session { OnOk result (OneSession (S.left pictures.old.source) sent.new.items) }

@@ -1,6 +1,7 @@
 use Rattle.std.proofs.Common.{length, sym, ap, ◌∙◌}
 use Rattle.sal_app.proofs.RunLemmas.{written_whole}
 use Rattle.sal_app.proofs.EndLemmas.{halted_call, run_call, session_of, head_stops, head_cut, rest_end}
+use Rattle.sal_app.proofs.EndingLemmas.{halted_call as halted_ends, run_call as run_ends, head_ends}
 use Rattle.sal_app.proofs.looping.run_lines.Goals as goal
 
 pub returns-in-Err-clause-gives : goal.returns-in-Err-clause-gives
@@ -25,3 +26,13 @@ returns-clause-end g c = rest_end _ _ _ _ _ c.rest.ensures.gives
 
 pub returns-clause-session : goal.returns-clause-session
 returns-clause-session g c = session_of c.rest.result c.in-Ok.head _ _ _ _ _ _ _ _ c.in-Ok.ensures.head c.in-Ok.ensures.told.0 c.in_default.ensures.gives
+
+pub returns-in-Err-clause-ending : goal.returns-in-Err-clause-ending
+returns-in-Err-clause-ending g c = head_ends c.in-Err.stop _ _ _ c.in-Err.ensures.told
+
+pub returns-in-Err-play-clause-ending : goal.returns-in-Err-play-clause-ending
+returns-in-Err-play-clause-ending g c = halted_ends c.in-Err-play.stop c.in-Ok.head _ _ _ _ _ _ _ c.in-Ok.ensures.head c.in-Ok.ensures.told.0 c.in-Err-play.ensures.gives
+
+pub returns-clause-ending : goal.returns-clause-ending
+returns-clause-ending g c =
+    run_ends c.rest.result c.in-Ok.head _ _ _ _ _ _ _ _ _ _ _ c.in-Ok.ensures.head c.play.ensures.head c.in-Ok.ensures.told.0 c.in_default.ensures.gives (ap length c.as_slice.ensures.value) c.rest.ensures.gives
