@@ -1,0 +1,5 @@
+pub mod Examples
+pub mod Placing
+pub mod Putting
+pub mod ReadBack
+pub mod Values

@@ -1,0 +1,10 @@
+use Rattle.std.proofs.Common.{◌∙◌}
+use Rattle.sal_bool.proofs.Meaning.{run_on, run_done}
+use Rattle.sal_header.specs.Headers.{filter_deltas}
+use Rattle.sal_header.proofs.read.read_filter_deltas.Goals as goal
+
+pub returns : goal.returns
+unfolding filter_deltas
+returns c = record {
+  reads = run_on _ _ _ _ _ c.update_four.ensures.reads ∙ (run_on _ _ _ _ _ c.update_four-2.ensures.reads ∙ (run_done _ _));
+}
