@@ -62,6 +62,7 @@ pub record IsSound {S : Type 0} (c : Coding S) (s : S) (p : Picture) (bytes : Li
 
 -- what every codec keeps
 pub record IsLawful {S : Type 0} (c : Coding S) : Type 0 where
+  pub digest_size : (s : S) → length (c.digest s) ≡ 32
   pub initial_digest : c.digest c.initial ≡ replicate 32 0
   -- a state takes some size or none
   pub one_size : (s : S) (w h v g : ℕ) → c.takes s w h → c.takes s v g → (w ≡ v) × (h ≡ g)

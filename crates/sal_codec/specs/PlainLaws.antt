@@ -8,6 +8,7 @@ use Rattle.std.proofs.lemmas.Nat.{mul-le}
 use lib.Lanes.{zip2}
 use Rattle.byteorder.specs.Endian.{big_bytes, big_number}
 use Rattle.byteorder.specs.Numbers.{big_number-reads_back}
+use Rattle.sha2.proofs.Facts256.{length-sha256}
 use Rattle.sal_base.specs.Picture.{AreSides, IsPicture, half}
 use Rattle.sal_base.specs.declared.picture.Picture.{Picture}
 use Rattle.sal_base.specs.declared.coding.Kind.{Kind}
@@ -16,7 +17,7 @@ use Rattle.sal_base.specs.declared.coding.Encoding.TheVariants.{Frame}
 use Rattle.sal_codec.specs.declared.raw.RawPicture.{RawPicture}
 use Rattle.sal_codec.specs.Coding.{MayEncode, IsFrame, HasSides, IsSound, IsLawful}
 use Rattle.sal_codec.specs.Raw.{IsRaw, samples_of, raw_of, picture_of, sample_count, luma_count, chroma_count}
-use Rattle.sal_codec.specs.Plain.{pair, less, plus, sides_of, key_bytes, side_fault, count_fault, unless, sized, key_of, inter_of, raw_of_frame, sums, differences, moved, frame_of, led_to, shows, Takes, Shows, plain}
+use Rattle.sal_codec.specs.Plain.{pair, less, plus, sides_of, key_bytes, side_fault, count_fault, unless, sized, key_of, inter_of, raw_of_frame, sums, differences, moved, frame_of, led_to, shows, digest, Takes, Shows, plain}
 
 samples_long : (p : Picture) → IsPicture p → length (samples_of p) ≡ sample_count p.width p.height
 samples_long p w = omega (arith, length-append {A = ℕ}, w.y.samples, w.u.samples, w.v.samples)
@@ -129,6 +130,10 @@ plain_size : (s : Option RawPicture) (w h v g : ℕ) → Takes s w h → Takes s
 plain_size None w h v g a b = absurd a
 plain_size (Some r) w h v g a b = (sym a.width ∙ b.width, sym a.height ∙ b.height)
 
+plain_digest_size : (s : Option RawPicture) → length (digest s) ≡ 32
+plain_digest_size None = refl
+plain_digest_size (Some r) = length-sha256 (sides_of r.width r.height ++ r.samples)
+
 -- what every codec keeps
 pub plain_lawful : IsLawful plain
-plain_lawful = record { initial_digest = refl; one_size = plain_size; sound = plain_sound }
+plain_lawful = record { digest_size = plain_digest_size; initial_digest = refl; one_size = plain_size; sound = plain_sound }
