@@ -1,0 +1,23 @@
+mod FrameLemmas
+mod PartsLemmas
+mod Lasting
+mod LeastLemmas
+mod LabelLemmas
+mod Entering
+mod Entered
+pub mod Handing
+mod EnteredIs
+mod Deciding
+mod Judging
+mod Room
+mod DecodedIs
+mod Parting
+mod Standing
+mod ShareAt
+mod SeenLemmas
+mod BookLemmas
+mod ShareLemmas
+mod FeedLemmas
+mod Was
+pub mod Holding
+pub mod Served

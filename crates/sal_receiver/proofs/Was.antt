@@ -1,0 +1,184 @@
+-- What was handed out or decided was ready, and what is ready is whole.
+use Rattle.std.proofs.Common.{◌≡◌, ℕ, Bool, true, false, cond, not, ◌&&◌, ◌||◌, List, [], ◌∷◌, filter, map, Option, Some, None, Ok, Err, is_some, refl, sym, subst, ltb, leb, eqb, ◌⊎◌, inl, inr}
+use Rattle.std.proofs.lemmas.Bool.{eqb-true, and_parts, or_cases}
+use Rattle.sal_base.specs.Lists.{Has}
+use Rattle.sal_codec.specs.Coding.{Coding}
+use Rattle.sal_wire.specs.declared.datagram.Ack.{Ack}
+use Rattle.sal_wire.specs.Entry.{Entry}
+use Rattle.sal_wire.specs.Came.{Part, Report, End}
+use Rattle.sal_reasm.specs.Complete.{floor_of, parts_of, is_complete, are_all}
+use Rattle.sal_reasm.specs.Offer.{Difference, or_else, clash, clash_of}
+use Rattle.sal_receiver.specs.declared.answers.Delivered.TheVariants.{Taken, Ended, Refused, Memory}
+use Rattle.sal_receiver.specs.declared.answers.Refuse.{Refuse}
+use Rattle.sal_receiver.specs.declared.answers.Done.{Done}
+use Rattle.sal_receiver.specs.declared.answers.Done.TheVariants.{Stranger, Returned, Unfit, Misnamed, Older, Show}
+use Rattle.sal_receiver.specs.Past.{Call, Deliver, TakeReady, Decoding, Outcome, taken, floor, fragment_in, session, head}
+use Rattle.sal_receiver.specs.Held.{held_under}
+use Rattle.sal_receiver.specs.Ready.{source_now, source_name, ready, waits, is_out, is_decided, take_answer}
+use Rattle.sal_receiver.specs.Answers.{clash_cause, first_of, refusal, unless_refused, deliver_answer, decoded_answer, outcome_answer, ack_after}
+use Rattle.sal_receiver.specs.Promises.{IsLegal, IsTaken}
+use Rattle.sal_receiver.proofs.PartsLemmas.{all_stay}
+use Rattle.sal_receiver.proofs.LeastLemmas.{least_in, filter_has, parts_taken, grown}
+
+either_some : {X : Type 0} (o p : Option X) → is_some (or_else o p) ≡ true → (is_some o ≡ true) ⊎ (is_some p ≡ true)
+either_some None p h = inr h
+either_some (Some x) p h = inl refl
+
+some_later : {X : Type 0} (o p : Option X) → is_some o ≡ true → is_some (or_else o p) ≡ true
+some_later None p h = absurd (cc)
+some_later (Some x) p h = refl
+
+some_if : {X : Type 0} (b : Bool) (o : Option X) → is_some (cond b o None) ≡ true → b ≡ true
+some_if true o h = refl
+some_if false o h = absurd (cc)
+
+-- ---- answers
+
+pub taken_means : (o : Option Refuse) (a b : Ack) → Taken a ≡ unless_refused o (Taken b) → o ≡ None
+taken_means None a b h = refl
+taken_means (Some cause) a b h = absurd (cc)
+
+pub first_parts : (o p : Option Refuse) → first_of o p ≡ None → (o ≡ None) × (p ≡ None)
+first_parts None p h = (refl, h)
+first_parts (Some cause) p h = absurd (cc)
+
+pub clash_none : (o : Option Difference) → clash_cause o ≡ None → o ≡ None
+clash_none None h = refl
+clash_none (Some d) h = absurd (cc)
+
+-- an answer other than to a stranger is to one that was handed out
+pub out_if : (out : Bool) (a x : Done) → a ≡ cond (not out) Stranger x → (a ≡ Stranger → ⊥) → out ≡ true
+out_if true a x h other = refl
+out_if false a x h other = absurd (other h)
+
+not_memory : (a : Ack) → Taken a ≡ Memory → ⊥
+not_memory a h = cc
+
+module _ {S : Type 0} (codec : Coding S) where
+  taken_step : (past : List (Call S)) (e : Entry) (moment : ℕ) (ack : Ack) → (Taken ack ≡ deliver_answer codec past (Ok (Part e)) moment) ⊎ ((Taken ack ≡ Memory) × IsTaken (deliver_answer codec past (Ok (Part e)) moment)) → clash (taken past) e ≡ None
+  taken_step past e moment ack (inl h) =
+      let none : refusal (session past) (head past) (taken past) e ≡ None = taken_means (refusal (session past) (head past) (taken past) e) ack (ack_after codec past e moment) h in
+      clash_none (clash (taken past) e) (first_parts _ _ (first_parts _ _ none).1).1
+  taken_step past e moment ack (inr h) = absurd (not_memory ack h.0)
+
+  -- a fragment that was taken had no clash
+  pub taken_like : (past : List (Call S)) (e : Entry) (moment : ℕ) (ack : Ack) → IsLegal codec (Deliver (Ok (Part e)) moment (Taken ack) ∷ past) → clash (taken past) e ≡ None
+  taken_like past e moment ack legal = taken_step past e moment ack legal.0
+
+  -- what is handed out waits
+  pub take_waits : (past : List (Call S)) (m : ℕ) → Some m ≡ take_answer codec past → waits codec past m ≡ true
+  take_waits past m h = (filter_has (waits codec past) (map (λ (e : Entry). e.number) (taken past)) m (least_in (filter (waits codec past) (map (λ (e : Entry). e.number) (taken past))) m (sym h))).0
+
+  pub waits_parts : (some out decided : Bool) → (some && not out && not decided) ≡ true → (some ≡ true) × (decided ≡ false)
+  waits_parts true true decided h = absurd (cc)
+  waits_parts true false true h = absurd (cc)
+  waits_parts true false false h = (refl, refl)
+  waits_parts false out decided h = absurd (cc)
+
+  some_next : (call : Call S) (past : List (Call S)) (n : ℕ) → is_some (ready codec past n) ≡ true → is_some (ready codec (call ∷ past) n) ≡ true
+  unfolding ready
+  some_next call past n h = some_later (ready codec past n) (source_now codec (call ∷ past) n) h
+
+  -- ---- what was handed out was ready
+
+  out_step : (past : List (Call S)) (m n : ℕ) → Some m ≡ take_answer codec past → (eqb m n ≡ true) ⊎ (is_out past n ≡ true) → (is_out past n ≡ true → is_some (ready codec past n) ≡ true) → is_some (ready codec past n) ≡ true
+  out_step past m n answer (inl e) more =
+      subst (λ (x : ℕ). is_some (ready codec past x) ≡ true) (eqb-true _ _ e)
+      (waits_parts (is_some (ready codec past m)) (is_out past m) (is_decided past m) (take_waits past m answer)).0
+  out_step past m n answer (inr out) more = more out
+
+  pub out_ready : (past : List (Call S)) (n : ℕ) → IsLegal codec past → is_out past n ≡ true → is_some (ready codec past n) ≡ true
+  out_ready [] n legal h = absurd (cc)
+  out_ready (Deliver came moment answer ∷ past) n legal h = some_next (Deliver came moment answer) past n (out_ready past n legal.1 h)
+  out_ready (TakeReady None ∷ past) n legal h = some_next (TakeReady None) past n (out_ready past n legal.1 h)
+  out_ready (TakeReady (Some m) ∷ past) n legal h = some_next (TakeReady (Some m)) past n (out_step past m n legal.0 (or_cases (eqb m n) (is_out past n) h) (out_ready past n legal.1))
+  out_ready (Decoding m outcome Stranger ∷ past) n legal h = some_next (Decoding m outcome Stranger) past n (out_ready past n legal.1 h)
+  out_ready (Decoding m outcome (Returned k) ∷ past) n legal h = some_next (Decoding m outcome (Returned k)) past n (out_ready past n legal.1 (and_parts (not (eqb m n)) (is_out past n) h).1)
+  out_ready (Decoding m outcome (Unfit k why) ∷ past) n legal h = some_next (Decoding m outcome (Unfit k why)) past n (out_ready past n legal.1 (and_parts (not (eqb m n)) (is_out past n) h).1)
+  out_ready (Decoding m outcome (Misnamed said found) ∷ past) n legal h = some_next (Decoding m outcome (Misnamed said found)) past n (out_ready past n legal.1 (and_parts (not (eqb m n)) (is_out past n) h).1)
+  out_ready (Decoding m outcome (Older k g) ∷ past) n legal h = some_next (Decoding m outcome (Older k g)) past n (out_ready past n legal.1 (and_parts (not (eqb m n)) (is_out past n) h).1)
+  out_ready (Decoding m outcome (Show k picture) ∷ past) n legal h = some_next (Decoding m outcome (Show k picture)) past n (out_ready past n legal.1 (and_parts (not (eqb m n)) (is_out past n) h).1)
+
+  -- what was decided was handed out before, so it was ready
+  decided_step : (past : List (Call S)) (m n : ℕ) (outcome : Outcome S) (answer : Done) → IsLegal codec past → answer ≡ decoded_answer codec past m outcome → (answer ≡ Stranger → ⊥) → (eqb m n ≡ true) ⊎ (is_decided past n ≡ true) → (is_decided past n ≡ true → is_some (ready codec past n) ≡ true) → is_some (ready codec past n) ≡ true
+  decided_step past m n outcome answer legal is other (inl e) more =
+      subst (λ (x : ℕ). is_some (ready codec past x) ≡ true) (eqb-true _ _ e) (out_ready past m legal (out_if (is_out past m) answer (outcome_answer codec past m outcome) is other))
+  decided_step past m n outcome answer legal is other (inr decided) more = more decided
+
+  pub decided_ready : (past : List (Call S)) (n : ℕ) → IsLegal codec past → is_decided past n ≡ true → is_some (ready codec past n) ≡ true
+  decided_ready [] n legal h = absurd (cc)
+  decided_ready (Deliver came moment answer ∷ past) n legal h = some_next (Deliver came moment answer) past n (decided_ready past n legal.1 h)
+  decided_ready (TakeReady answer ∷ past) n legal h = some_next (TakeReady answer) past n (decided_ready past n legal.1 h)
+  decided_ready (Decoding m outcome Stranger ∷ past) n legal h = some_next (Decoding m outcome Stranger) past n (decided_ready past n legal.1 h)
+  decided_ready (Decoding m outcome (Returned k) ∷ past) n legal h = some_next (Decoding m outcome (Returned k)) past n (decided_ready past n legal.1 h)
+  decided_ready (Decoding m outcome (Unfit k why) ∷ past) n legal h = some_next (Decoding m outcome (Unfit k why)) past n (decided_step past m n outcome (Unfit k why) legal.1 legal.0.0 (λ (q : Unfit k why ≡ Stranger). cc) (or_cases (eqb m n) (is_decided past n) h) (decided_ready past n legal.1))
+  decided_ready (Decoding m outcome (Misnamed said found) ∷ past) n legal h = some_next (Decoding m outcome (Misnamed said found)) past n (decided_step past m n outcome (Misnamed said found) legal.1 legal.0.0 (λ (q : Misnamed said found ≡ Stranger). cc) (or_cases (eqb m n) (is_decided past n) h) (decided_ready past n legal.1))
+  decided_ready (Decoding m outcome (Older k g) ∷ past) n legal h = some_next (Decoding m outcome (Older k g)) past n (decided_step past m n outcome (Older k g) legal.1 legal.0.0 (λ (q : Older k g ≡ Stranger). cc) (or_cases (eqb m n) (is_decided past n) h) (decided_ready past n legal.1))
+  decided_ready (Decoding m outcome (Show k picture) ∷ past) n legal h = some_next (Decoding m outcome (Show k picture)) past n (decided_step past m n outcome (Show k picture) legal.1 legal.0.0 (λ (q : Show k picture ≡ Stranger). cc) (or_cases (eqb m n) (is_decided past n) h) (decided_ready past n legal.1))
+
+  -- ---- what is out isn't decided
+
+  undecided_take : (past : List (Call S)) (m n : ℕ) → Some m ≡ take_answer codec past → (eqb m n ≡ true) ⊎ (is_out past n ≡ true) → (is_out past n ≡ true → is_decided past n ≡ false) → is_decided past n ≡ false
+  undecided_take past m n answer (inl e) more =
+      subst (λ (x : ℕ). is_decided past x ≡ false) (eqb-true _ _ e)
+      (waits_parts (is_some (ready codec past m)) (is_out past m) (is_decided past m) (take_waits past m answer)).1
+  undecided_take past m n answer (inr out) more = more out
+
+  undecided_step : (b out decided : Bool) → (not b && out) ≡ true → (out ≡ true → decided ≡ false) → (b || decided) ≡ false
+  undecided_step true out decided h more = absurd (cc)
+  undecided_step false out decided h more = more h
+
+  pub out_undecided : (past : List (Call S)) (n : ℕ) → IsLegal codec past → is_out past n ≡ true → is_decided past n ≡ false
+  out_undecided [] n legal h = refl
+  out_undecided (Deliver came moment answer ∷ past) n legal h = out_undecided past n legal.1 h
+  out_undecided (TakeReady None ∷ past) n legal h = out_undecided past n legal.1 h
+  out_undecided (TakeReady (Some m) ∷ past) n legal h = undecided_take past m n legal.0 (or_cases (eqb m n) (is_out past n) h) (out_undecided past n legal.1)
+  out_undecided (Decoding m outcome Stranger ∷ past) n legal h = out_undecided past n legal.1 h
+  out_undecided (Decoding m outcome (Returned k) ∷ past) n legal h = out_undecided past n legal.1 (and_parts (not (eqb m n)) (is_out past n) h).1
+  out_undecided (Decoding m outcome (Unfit k why) ∷ past) n legal h = undecided_step (eqb m n) (is_out past n) (is_decided past n) h (out_undecided past n legal.1)
+  out_undecided (Decoding m outcome (Misnamed said found) ∷ past) n legal h = undecided_step (eqb m n) (is_out past n) (is_decided past n) h (out_undecided past n legal.1)
+  out_undecided (Decoding m outcome (Older k g) ∷ past) n legal h = undecided_step (eqb m n) (is_out past n) (is_decided past n) h (out_undecided past n legal.1)
+  out_undecided (Decoding m outcome (Show k picture) ∷ past) n legal h = undecided_step (eqb m n) (is_out past n) (is_decided past n) h (out_undecided past n legal.1)
+
+  -- ---- what is ready was taken
+
+  ready_step : (past : List (Call S)) (call : Call S) (n : ℕ) → (is_some (ready codec past n) ≡ true) ⊎ (is_some (source_now codec (call ∷ past) n) ≡ true) → (is_some (ready codec past n) ≡ true → Has (map (λ (e : Entry). e.number) (taken past)) n) → Has (map (λ (e : Entry). e.number) (taken (call ∷ past))) n
+  ready_step past call n (inl h) more = grown (fragment_in call) (taken past) n (more h)
+  ready_step past call n (inr h) more =
+      parts_taken (taken (call ∷ past)) n (and_parts (leb (floor (call ∷ past)) n) (are_all (parts_of n (taken (call ∷ past)))) (some_if (is_complete (taken (call ∷ past)) n) (held_under codec (call ∷ past) (source_name (call ∷ past) n)) h)).1
+
+  pub ready_taken : (past : List (Call S)) (n : ℕ) → is_some (ready codec past n) ≡ true → Has (map (λ (e : Entry). e.number) (taken past)) n
+  unfolding ready
+  ready_taken [] n h = absurd (cc)
+  ready_taken (call ∷ past) n h = ready_step past call n (either_some (ready codec past n) (source_now codec (call ∷ past) n) h) (ready_taken past n)
+
+  -- ---- and is whole
+
+  part_step : (b : Bool) (e : Entry) (es : List Entry) (n : ℕ) → eqb e.number n ≡ b → clash_of (parts_of e.number es) e ≡ None → are_all (parts_of n es) ≡ true → are_all (cond b (e ∷ parts_of n es) (parts_of n es)) ≡ true
+  part_step true e es n is like all = all_stay e (parts_of n es) (subst (λ (x : ℕ). clash_of (parts_of x es) e ≡ None) (eqb-true _ _ is) like) all
+  part_step false e es n is like all = all
+
+  with_step : (b : Bool) (e : Entry) (es : List Entry) (n : ℕ) → cond b None (clash_of (parts_of e.number es) e) ≡ None → are_all (parts_of n es) ≡ true → are_all (parts_of n (cond b es (e ∷ es))) ≡ true
+  with_step true e es n like all = all
+  with_step false e es n like all = part_step (eqb e.number n) e es n refl like all
+
+  whole_stays : (call : Call S) (past : List (Call S)) (n : ℕ) → IsLegal codec (call ∷ past) → are_all (parts_of n (taken past)) ≡ true → are_all (parts_of n (taken (call ∷ past))) ≡ true
+  whole_stays (Deliver (Err fault) moment answer) past n legal all = all
+  whole_stays (Deliver (Ok (Report ack)) moment answer) past n legal all = all
+  whole_stays (Deliver (Ok (End number last)) moment answer) past n legal all = all
+  whole_stays (Deliver (Ok (Part e)) moment (Taken ack)) past n legal all = with_step (ltb e.number (floor_of (taken past))) e (taken past) n (taken_like past e moment ack legal) all
+  whole_stays (Deliver (Ok (Part e)) moment (Ended last)) past n legal all = all
+  whole_stays (Deliver (Ok (Part e)) moment (Refused cause)) past n legal all = all
+  whole_stays (Deliver (Ok (Part e)) moment Memory) past n legal all = all
+  whole_stays (TakeReady answer) past n legal all = all
+  whole_stays (Decoding m outcome answer) past n legal all = all
+
+  whole_step : (call : Call S) (past : List (Call S)) (n : ℕ) → IsLegal codec (call ∷ past) → (is_some (ready codec past n) ≡ true) ⊎ (is_some (source_now codec (call ∷ past) n) ≡ true) → (is_some (ready codec past n) ≡ true → are_all (parts_of n (taken past)) ≡ true) → are_all (parts_of n (taken (call ∷ past))) ≡ true
+  whole_step call past n legal (inl h) more = whole_stays call past n legal (more h)
+  whole_step call past n legal (inr h) more =
+      (and_parts (leb (floor (call ∷ past)) n) (are_all (parts_of n (taken (call ∷ past)))) (some_if (is_complete (taken (call ∷ past)) n) (held_under codec (call ∷ past) (source_name (call ∷ past) n)) h)).1
+
+  pub ready_whole : (past : List (Call S)) (n : ℕ) → IsLegal codec past → is_some (ready codec past n) ≡ true → are_all (parts_of n (taken past)) ≡ true
+  unfolding ready
+  ready_whole [] n legal h = absurd (cc)
+  ready_whole (call ∷ past) n legal h = whole_step call past n legal (either_some (ready codec past n) (source_now codec (call ∷ past) n) h) (ready_whole past n legal.1)

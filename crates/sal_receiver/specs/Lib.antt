@@ -1,0 +1,12 @@
+pub mod Past
+pub mod Held
+pub mod Ready
+pub mod Answers
+pub mod Promises
+pub mod Pending
+pub mod Machine
+pub mod Work
+pub mod Shared
+pub mod Line
+pub mod Ran
+pub mod Judged

@@ -1,0 +1,99 @@
+-- The receiver's past: its calls with their answers, the newest first.
+use Rattle.std.specs.Prelude.{ℕ, max, List, [], ◌∷◌, filter_map, Option, Some, None, Result, Ok}
+use Rattle.sal_y4m.specs.declared.head.Head.{Head}
+use Rattle.sal_base.specs.declared.picture.Picture.{Picture}
+use Rattle.sal_base.specs.declared.coding.Fault.{Fault}
+use Rattle.sal_wire.specs.declared.fault.WireFault.{WireFault}
+use Rattle.sal_wire.specs.Entry.{Entry}
+use Rattle.sal_wire.specs.Came.{Came, Part, End}
+use Rattle.sal_reasm.specs.Complete.{floor_of, with_part}
+use Rattle.sal_reasm.specs.Offer.{or_else}
+use Rattle.sal_budget.specs.Gap.{Arrival}
+use Rattle.sal_receiver.specs.declared.answers.Delivered.{Delivered}
+use Rattle.sal_receiver.specs.declared.answers.Delivered.TheVariants.{Taken, Ended}
+use Rattle.sal_receiver.specs.declared.answers.Done.{Done}
+use Rattle.sal_receiver.specs.declared.answers.Done.TheVariants.{Show}
+
+-- what came of decoding a frame
+pub data Outcome (S : Type 0) : Type 0 where
+  Sound : (state : S) → (picture : Picture) → Outcome S
+  Faulty : (fault : Fault) → Outcome S
+  NoMemory : Outcome S
+
+-- one call with its answer
+pub data Call (S : Type 0) : Type 0 where
+  Deliver : (came : Result Came WireFault) → (moment : ℕ) → (answer : Delivered) → Call S
+  TakeReady : (answer : Option ℕ) → Call S
+  Decoding : (number : ℕ) → (outcome : Outcome S) → (answer : Done) → Call S
+
+-- the size and rate that a fragment says
+abbrev pub head_of : Entry → Head
+head_of e = record { width = e.width; height = e.height; rate = e.rate }
+
+abbrev pub arrival_of : Entry → ℕ → Arrival
+arrival_of e moment = record { moment = moment; serial = e.serial; pause = e.pause }
+
+abbrev pub with_taken : Option Entry → List Entry → List Entry
+with_taken None before = before
+with_taken (Some e) before = with_part e before
+
+module _ {S : Type 0} where
+  abbrev pub fragment_in : Call S → Option Entry
+  fragment_in (Deliver (Ok (Part e)) moment (Taken ack)) = Some e
+  fragment_in _ = None
+
+  abbrev pub shown_in : Call S → Option (ℕ × Picture)
+  shown_in (Decoding n outcome (Show m picture)) = Some (m, picture)
+  shown_in _ = None
+
+  -- the moment of a call that wasn't refused
+  abbrev pub moment_in : Call S → ℕ
+  moment_in (Deliver came moment (Taken ack)) = moment
+  moment_in (Deliver came moment (Ended last)) = moment
+  moment_in _ = 0
+
+  abbrev pub session_in : Call S → Option ℕ
+  session_in (Deliver (Ok (Part e)) moment (Taken ack)) = Some e.session
+  session_in (Deliver (Ok (End number last)) moment (Ended m)) = Some number
+  session_in _ = None
+
+  abbrev pub head_in : Call S → Option Head
+  head_in (Deliver (Ok (Part e)) moment (Taken ack)) = Some (head_of e)
+  head_in _ = None
+
+  -- the fragments that were taken while their numbers stood at or above the floor, the newest first
+  abbrev pub taken : List (Call S) → List Entry
+  taken [] = []
+  taken (call ∷ past) = with_taken (fragment_in call) (taken past)
+
+  -- the numbers and pictures that were shown, the newest first
+  abbrev pub shown : List (Call S) → List (ℕ × Picture)
+  shown past = filter_map shown_in past
+
+  -- the greatest floor of a fragment taken, or 1
+  abbrev pub floor : List (Call S) → ℕ
+  floor past = floor_of (taken past)
+
+  -- the greatest moment of a call that wasn't refused
+  abbrev pub now : List (Call S) → ℕ
+  now [] = 0
+  now (call ∷ past) = max (moment_in call) (now past)
+
+  -- the session of the first fragment or end
+  abbrev pub session : List (Call S) → Option ℕ
+  session [] = None
+  session (call ∷ past) = or_else (session past) (session_in call)
+
+  -- the size and rate of the first fragment
+  abbrev pub head : List (Call S) → Option Head
+  head [] = None
+  head (call ∷ past) = or_else (head past) (head_in call)
+
+  -- the arrivals of fragments at the moments that the receiver then had, the newest first
+  abbrev pub arrivals : List (Call S) → List Arrival
+  arrivals [] = []
+  arrivals (call ∷ past) = with_arrival (fragment_in call) (now (call ∷ past)) (arrivals past)
+    where
+      with_arrival : Option Entry → ℕ → List Arrival → List Arrival
+      with_arrival None moment before = before
+      with_arrival (Some e) moment before = arrival_of e moment ∷ before

@@ -1,0 +1,42 @@
+-- A frame that is handed out, and its decoding.
+use Rattle.std.specs.Prelude.{◌≡◌, ℕ, Bool, List, Some, IsTrue}
+use Rattle.std.specs.Arc.{arc_value}
+use Rattle.std.specs.declared.sync.Arc.{Arc}
+use Rattle.sal_receiver.specs.declared.pending.Task.{Task}
+use Rattle.sal_codec.specs.Coding.{Coding}
+use Rattle.sal_receiver.specs.Past.{Call, Outcome}
+use Rattle.sal_receiver.specs.Ready.{ready, frame, target_name, is_out, decoding_of}
+
+-- a frame to be decoded from a state
+pub record Handed (S : Type 0) : Type 0 where
+  pub number : ℕ
+  pub target : List ℕ
+  pub source : S
+  pub bytes : List ℕ
+
+abbrev pub number_of : {S : Type 0} → Handed S → ℕ
+number_of h = h.number
+
+-- a share seen as what it shares
+abbrev pub handed_as : {S Z : Type 0} → Task (Arc S Z) → Handed S
+handed_as t = record { number = t.number; target = t.target.0; source = arc_value t.source; bytes = t.bytes }
+
+-- a frame that was handed out, and what came of decoding it
+pub record Work (S : Type 0) : Type 0 where
+  pub handed : Handed S
+  pub outcome : Outcome S
+
+module _ {S : Type 0} (codec : Coding S) where
+  -- the codec's decoding of the frame from its source, or want of memory
+  abbrev pub IsRun : Handed S → Outcome S → Type 0
+  IsRun h outcome = (ran : Bool) × (outcome ≡ decoding_of codec (Some h.source) h.bytes ran)
+
+  -- the frame of its number, from the state from which it is ready
+  pub record IsFrameOf (past : List (Call S)) (h : Handed S) : Type 0 where
+    pub target : target_name past h.number ≡ h.target
+    pub source : ready codec past h.number ≡ Some h.source
+    pub bytes : frame past h.number ≡ h.bytes
+
+  -- own work: where its number is out, it is the frame that was handed out
+  abbrev pub IsOwn : List (Call S) → Handed S → Type 0
+  IsOwn past h = IsTrue (is_out past h.number) → IsFrameOf past h

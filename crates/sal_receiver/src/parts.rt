@@ -1,0 +1,102 @@
+//! What the receiver does with the parts that it keeps.
+
+ghost use Rattle.std.specs.Prelude.{◌≡◌, ◌<◌, ◌≤◌, ◌&&◌, length, map, find, nat_le, vec_len, vec_capacity, IfOk};
+ghost use Rattle.std.specs.Option.{option_map};
+ghost use Rattle.std.specs.Arc.{arc_value};
+ghost use Rattle.sal_base.specs.Names.{same};
+ghost use Rattle.sal_wire.specs.Entry.{view};
+ghost use Rattle.sal_chain.specs.Held.{numbered, from_floor};
+ghost use Rattle.sal_receiver.specs.Held.{state_among};
+ghost use Rattle.sal_receiver.specs.Pending.{seen};
+ghost use Rattle.sal_receiver.specs.Machine.{entered, new_pending};
+
+use crate::pending::{Pending, Stage};
+use crate::rows::put;
+use sal_base::{Bytes, Memory, Name};
+use sal_chain::Store;
+use sal_codec::Codec;
+use sal_reasm::Offered;
+use sal_wire::{Fragment, Held};
+use std::sync::Arc;
+
+/// The first number from the floor on that has this name.
+fn first_label(labels: &[(u32, Name)], floor: u32, name: &Name) -> Option<u32>
+    ensures { result ≡ option_map (λ l. l.0) (find (λ l. nat_le floor l.0 && same l.1.0 name.now.0) labels.now) }
+{
+    labels
+        .iter()
+        .find(|l| floor <= l.0 && l.1 == *name)
+        .map(|l| l.0)
+}
+
+/// A share of the state of this number.
+fn share_at<C: Codec>(store: &Store<C>, number: u32) -> Result<Option<Arc<C::State>>, Memory>
+    ensures { IfOk result (λ o. option_map arc_value o ≡ option_map (λ k. k.state) (numbered number store.now.kept)) }
+{
+    match store.get(number) {
+        Some((_, state)) => Ok(Some(Arc::try_clone(state)?)),
+        None => Ok(None),
+    }
+}
+
+/// A share of the state of this name, if one is held from the floor on.
+pub(crate) fn share_of<C: Codec>(
+    store: &Store<C>,
+    initial: &Arc<C::State>,
+    floor: u32,
+    name: Name,
+) -> Result<Option<Arc<C::State>>, Memory>
+    ensures { IfOk result (λ o. option_map arc_value o ≡ state_among (arc_value initial.now) name.0 (from_floor floor store.now.kept)) }
+{
+    if name == Name::ZERO {
+        return Ok(Some(Arc::try_clone(initial)?));
+    }
+    let labels = store.held();
+    match first_label(labels.as_slice(), floor, &name) {
+        Some(number) => share_at(store, number),
+        None => Ok(None),
+    }
+}
+
+/// The numbers with their names, for an acknowledgement.
+pub(crate) fn held_of(labels: &[(u32, Name)]) -> Held
+    requires { length labels.now ≤ 16 }
+    ensures { result ≡ labels.now }
+{
+    let mut held = Held::new();
+    for label in labels {
+        held.push(label.0, label.1);
+    }
+    held
+}
+
+/// A frame that is complete now, with its source where that is held.
+fn complete<S: Drop>(fragment: &Fragment, bytes: Bytes, source: Option<Arc<S>>) -> Pending<Arc<S>>
+    ensures { seen result ≡ new_pending (view fragment.now) (option_map arc_value source) bytes }
+{
+    let stage = match source {
+        Some(source) => Stage::Waits(source, bytes),
+        None => Stage::Whole(bytes),
+    };
+    Pending {
+        number: fragment.number,
+        source: fragment.source,
+        target: fragment.target,
+        stage,
+    }
+}
+
+/// Adds the fragment's frame, where it is complete now.
+pub(crate) fn add<S: Drop>(
+    frames: &mut Vec<Pending<Arc<S>>>,
+    offered: Offered,
+    fragment: &Fragment,
+    source: Option<Arc<S>>,
+)
+    requires { vec_len frames.old < vec_capacity frames.old }
+    ensures { map seen frames.new.items ≡ entered offered (view fragment.now) (option_map arc_value source) (map seen frames.old.items) }
+{
+    if let Offered::Complete(bytes) = offered {
+        put(frames, complete(fragment, bytes, source));
+    }
+}

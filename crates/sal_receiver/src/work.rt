@@ -1,0 +1,155 @@
+//! A frame that is handed out, and its decoding.
+
+ghost use Rattle.std.specs.Prelude.{◌≡◌, ◌⊎◌, Bool, Some};
+ghost use Rattle.std.specs.Option.{option_map};
+ghost use Rattle.sal_receiver.specs.Past.{Sound, NoMemory};
+ghost use Rattle.sal_receiver.specs.Work.{IsRun, handed_as};
+ghost use Rattle.sal_receiver.specs.Ran.{outcome_seen, IsShared};
+ghost use Rattle.sal_receiver.specs.Ready.{decoding_of};
+
+use crate::pending::Task;
+use crate::shares::Shares;
+use sal_base::{DecodeFault, Decoded, Fault, Name, Picture};
+use sal_codec::Codec;
+use std::alloc::Global;
+use std::marker::Model;
+use std::sync::Arc;
+
+/// What came of decoding a frame.
+#[derive(Drop)]
+pub enum Outcome<S> {
+    /// Shares of the new state, its digest, and the picture.
+    Frame(Shares<S>, [u8; 32], Picture),
+    /// The bytes are no frame of the source.
+    Fault(Fault),
+    /// There was no memory for it.
+    NoMemory,
+}
+
+/// A frame that is ready to be decoded, with its own share of the state that it is decoded from.
+#[derive(Drop)]
+pub struct Ready<C: Codec> {
+    task: Task<Arc<C::State>>,
+}
+
+impl<C: Codec> Model for Ready<C> {
+    ghost use Rattle.std.specs.Arc.{arc_value};
+    ghost use Rattle.sal_receiver.specs.Work.{Handed};
+
+    ghost Value = { Handed C.State };
+
+    ghost view = { λ r. record { number = r.task.number; target = r.task.target.0; source = arc_value r.task.source; bytes = r.task.bytes } };
+}
+
+/// A frame that was handed out, and what came of decoding it. Only `Ready::run` makes one, and the outcome is the codec's
+/// decoding of the frame from its source, or want of memory.
+#[derive(Drop)]
+pub struct Decoding<C: Codec> {
+    ready: Ready<C>,
+    outcome: Outcome<C::State>,
+}
+
+impl<C: Codec> Model for Decoding<C> {
+    ghost use Rattle.sal_receiver.specs.Work.{Work, IsRun};
+
+    ghost Value = { Work C.State };
+
+    ghost use Rattle.sal_receiver.specs.Ran.{outcome_seen, IsShared};
+
+    ghost view = { λ d. record { handed = d.ready; outcome = outcome_seen d.outcome } };
+
+    ghost invariant = { λ d. IsRun C.coding d.ready (outcome_seen d.outcome) × IsShared C.coding d.outcome };
+}
+
+impl<C: Codec> Ready<C> {
+    /// The frame's number.
+    pub fn number(&self) -> u32
+        ensures { result ≡ self.now.number }
+    {
+        self.task.number
+    }
+
+    /// The name of the state that decoding should give.
+    pub fn target(&self) -> Name
+        ensures { result.0 ≡ self.now.target }
+    {
+        self.task.target
+    }
+
+    /// Decodes the frame.
+    pub fn run(self, alloc: Global, codec: &C) -> Decoding<C>
+        ensures handed { result.handed ≡ self }
+        ensures run { IsRun C.coding result.handed result.outcome }
+    {
+        let outcome = ran(alloc, codec, &self.task.source, self.task.bytes.as_slice());
+        Decoding {
+            ready: self,
+            outcome,
+        }
+    }
+
+    pub(crate) fn into_task(self) -> Task<Arc<C::State>>
+        ensures { handed_as result ≡ self }
+    {
+        self.task
+    }
+}
+
+impl<C: Codec> Decoding<C> {
+    /// The frame's number.
+    pub fn number(&self) -> u32
+        ensures { result ≡ self.now.handed.number }
+    {
+        self.ready.number()
+    }
+
+    /// What came of it.
+    pub fn outcome(&self) -> &Outcome<C::State>
+        ensures { outcome_seen result.now ≡ self.now.outcome }
+    {
+        &self.outcome
+    }
+
+    pub(crate) fn into_parts(self) -> (Ready<C>, Outcome<C::State>)
+        ensures handed { result.0 ≡ self.handed }
+        ensures outcome { outcome_seen result.1 ≡ self.outcome }
+        ensures run { IsRun C.coding self.handed self.outcome }
+        ensures shared { IsShared C.coding result.1 }
+    {
+        (self.ready, self.outcome)
+    }
+}
+
+/// What was handed out, as a frame that is ready.
+pub(crate) fn ready_of<C: Codec>(task: Option<Task<Arc<C::State>>>) -> Option<Ready<C>>
+    ensures { result ≡ option_map handed_as task }
+{
+    match task {
+        Some(task) => Some(Ready { task }),
+        None => None,
+    }
+}
+
+// What comes of a decoded frame, whose state is shared.
+fn framed<C: Codec>(alloc: Global, codec: &C, decoded: Decoded<C::State>) -> Outcome<C::State>
+    ensures made { (outcome_seen result ≡ Sound decoded.state decoded.picture) ⊎ (outcome_seen result ≡ NoMemory) }
+    ensures shared { IsShared C.coding result }
+{
+    let digest = codec.digest(&decoded.state);
+    match Shares::new(alloc, decoded.state) {
+        Ok(shares) => Outcome::Frame(shares, digest, decoded.picture),
+        Err(_) => Outcome::NoMemory,
+    }
+}
+
+// What comes of decoding a frame from a state.
+fn ran<C: Codec>(alloc: Global, codec: &C, source: &C::State, bytes: &[u8]) -> Outcome<C::State>
+    ensures run { (ran : Bool) × (outcome_seen result ≡ decoding_of C.coding (Some source.now) bytes.now ran) }
+    ensures shared { IsShared C.coding result }
+{
+    match codec.decode(alloc, source, bytes) {
+        Ok(decoded) => framed(alloc, codec, decoded),
+        Err(DecodeFault::Bad(fault)) => Outcome::Fault(fault),
+        Err(DecodeFault::Memory) => Outcome::NoMemory,
+    }
+}
