@@ -1,2 +1,4 @@
 mod Examples
+mod ModeExamples
 pub mod NearLemmas
+mod VectorExamples

@@ -1,2 +1,7 @@
+pub mod Around
+pub mod IntraModes
+pub mod Modes
 pub mod Near
+pub mod ReadVectors
+pub mod SplitVectors
 pub mod Vectors

@@ -1,4 +1,4 @@
-//! Modes and vectors of macroblocks: so far the vectors that neighbours suggest (RFC 6386, section 16.3).
+//! Modes and vectors of macroblocks: what their bits mean, and the vectors that neighbours suggest (RFC 6386, sections 11, 16 and 17).
 #![tactic(auto)]
 
 mod around;
