@@ -1,5 +1,6 @@
 -- The bytes that a digest is taken over, computed; the values are by hand.
 use Rattle.std.proofs.Common.{◌≡◌, ◌++◌, ℕ, List, pos, negsuc, [], ◌∷◌, true, false, refl, replicate}
+use Rattle.sha2.specs.Sha256.{sha256, digest_bytes, hash_after, compress, rounds, schedule, first_words}
 use Rattle.sal_base.specs.declared.picture.Planes.{Planes}
 use Rattle.sal_base.specs.Pictures.{plane}
 use Rattle.sal_header.specs.declared.header.Kept.{Kept}
@@ -39,3 +40,8 @@ initial_digest = refl
 initial_name : name_of initial_state ≡ replicate 16 0
 unfolding digest_of initial_state
 initial_name = refl
+
+-- four samples, by another program
+digest_of_samples : planes_digest some_references.last ≡ 169 ∷ 60 ∷ 124 ∷ 141 ∷ 91 ∷ 178 ∷ 114 ∷ 98 ∷ 198 ∷ 16 ∷ 145 ∷ 17 ∷ 227 ∷ 83 ∷ 7 ∷ 157 ∷ 192 ∷ 107 ∷ 171 ∷ 38 ∷ 76 ∷ 60 ∷ 40 ∷ 240 ∷ 64 ∷ 121 ∷ 162 ∷ 147 ∷ 124 ∷ 192 ∷ 46 ∷ 93 ∷ []
+unfolding planes_digest some_references flat sha256 digest_bytes hash_after compress rounds schedule first_words
+digest_of_samples = refl

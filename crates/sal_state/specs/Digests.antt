@@ -1,5 +1,5 @@
 -- The digest of a state, and its name.
-use Rattle.std.specs.Prelude.{ℕ, ◌/◌, ◌%◌, ◌-◌, ℤ, pos, negsuc, List, [], ◌∷◌, ◌++◌, Bool, Option, Some, None, map, take, replicate}
+use Rattle.std.specs.Prelude.{ℕ, ◌/◌, ◌%◌, ◌-◌, ℤ, pos, negsuc, List, [], ◌∷◌, ◌++◌, Option, Some, None, map, take, replicate}
 use Rattle.sha2.specs.Sha256.{sha256}
 use Rattle.sal_base.specs.declared.picture.Planes.{Planes}
 use Rattle.sal_bool.specs.Syntax.{bit_of}
