@@ -1,0 +1,4 @@
+pub mod After
+pub mod Built
+pub mod Records
+pub mod Residues
