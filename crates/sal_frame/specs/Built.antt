@@ -67,8 +67,8 @@ abbrev pub luma_prediction : Plane → MbMode → Plane → ℕ → ℕ → ℕ 
 luma_prediction from m p x y =
     let edge = luma_edge (luma_edge_of p.width p.samples x y) in
     λ row column.
-      if is_intra m.reference then whole_sample m.y edge row column
-      else inter_sample from (luma_vector m row column) false (pos (x + column)) (pos (y + row))
+    if is_intra m.reference then whole_sample m.y edge row column
+    else inter_sample from (luma_vector m row column) false (pos (x + column)) (pos (y + row))
 
 -- the luma samples of a macroblock, from the reference's plane and the plane built so far
 unfoldable pub luma_built : Plane → Steps → Macroblock → Plane → ℕ → ℕ → List ℕ
@@ -82,8 +82,8 @@ abbrev pub chroma_prediction : Plane → MbMode → Plane → ℕ → ℕ → �
 chroma_prediction from m p x y =
     let edge = chroma_edge (chroma_edge_of p.width p.samples x y) in
     λ row column.
-      if is_intra m.reference then whole_sample m.chroma edge row column
-      else inter_sample from (chroma_vector m row column) true (pos (x + column)) (pos (y + row))
+    if is_intra m.reference then whole_sample m.chroma edge row column
+    else inter_sample from (chroma_vector m row column) true (pos (x + column)) (pos (y + row))
 
 unfoldable pub chroma_built : Plane → Steps → Macroblock → ℕ → Plane → ℕ → ℕ → List ℕ
 chroma_built from s b first p x y =
