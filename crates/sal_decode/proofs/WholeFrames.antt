@@ -16,7 +16,7 @@ use Rattle.sal_bool.specs.Bits.{widen, next}
 use Rattle.sal_bool.specs.Syntax.{read, ◌>>=◌, number, literal, signed_literal, each, walk}
 use Rattle.sal_probs.specs.Probabilities.{initial_table}
 use Rattle.sal_header.specs.Tags.{tag_of, sides_of, first_part_of, parts_of, placed}
-use Rattle.sal_header.specs.Headers.{header_over, segments, segment_data, filtering, filter_deltas, quantisers, key_refreshing, inter_refreshing, coefficient_updates, vector_updates, inter_modes, no_inter_modes, modes}
+use Rattle.sal_header.specs.Headers.{header_over, header_made, segments, segment_data, filtering, filter_deltas, quantisers, key_refreshing, inter_refreshing, coefficient_updates, vector_updates, inter_modes, no_inter_modes, modes}
 use Rattle.sal_macroblock.specs.Macroblocks.{outside}
 use Rattle.sal_transform.specs.Hadamard.{inverse_y2_of, sum_0, sum_1, sum_2, sum_3, eighth}
 use Rattle.sal_transform.specs.Residue.{residue_of, residue_after, firsts_of}
@@ -121,7 +121,7 @@ key_record = record {
 }
 
 key_read : frame_of initial_state key_bytes ≡ Ok key_record
-unfolding decode_of frame_of record_of tag_of sides_of first_part_of parts_of placed first_partition read widen next ◌>>=◌ number literal signed_literal each walk update_coefficients_of update_rows update_vectors_of header_over segments segment_data filtering filter_deltas quantisers key_refreshing inter_refreshing coefficient_updates vector_updates inter_modes no_inter_modes modes initial_state initial_kept initial_table default_coefficients_of default_rows default_vectors_of inter_y_probabilities_of inter_chroma_probabilities_of key_y_probabilities_of key_chroma_probabilities_of inter_subblock_probabilities_of subblock_probabilities_of split_probabilities_of vector_mode_probabilities_of sub_vector_probabilities_of mb_modes mb_mode intra_mode sub_modes sub_row inter_mode near_of noted put_motion read_vector component long_size bits_at split_vectors sub_vector parts outside segment_entries key_y_entries inter_y_entries chroma_entries subblock_entries vector_mode_entries split_entries sub_vector_entries short_vector_entries token_entries with_segments macroblocks tokens_of macroblock blocks places block levels token_size token_row bands_of category_bases_of category_bits_of listed_from key_bytes key_record
+unfolding decode_of frame_of record_of tag_of sides_of first_part_of parts_of placed first_partition read widen next ◌>>=◌ number literal signed_literal each walk update_coefficients_of update_rows update_vectors_of header_over header_made segments segment_data filtering filter_deltas quantisers key_refreshing inter_refreshing coefficient_updates vector_updates inter_modes no_inter_modes modes initial_state initial_kept initial_table default_coefficients_of default_rows default_vectors_of inter_y_probabilities_of inter_chroma_probabilities_of key_y_probabilities_of key_chroma_probabilities_of inter_subblock_probabilities_of subblock_probabilities_of split_probabilities_of vector_mode_probabilities_of sub_vector_probabilities_of mb_modes mb_mode intra_mode sub_modes sub_row inter_mode near_of noted put_motion read_vector component long_size bits_at split_vectors sub_vector parts outside segment_entries key_y_entries inter_y_entries chroma_entries subblock_entries vector_mode_entries split_entries sub_vector_entries short_vector_entries token_entries with_segments macroblocks tokens_of macroblock blocks places block levels token_size token_row bands_of category_bases_of category_bits_of listed_from key_bytes key_record
 key_read = refl
 
 key_unfiltered : Planes
@@ -315,7 +315,7 @@ inter_record = record {
 }
 
 inter_read : frame_of key_state inter_bytes ≡ Ok inter_record
-unfolding decode_of frame_of record_of tag_of sides_of first_part_of parts_of placed first_partition read widen next ◌>>=◌ number literal signed_literal each walk update_coefficients_of update_rows update_vectors_of header_over segments segment_data filtering filter_deltas quantisers key_refreshing inter_refreshing coefficient_updates vector_updates inter_modes no_inter_modes modes initial_state initial_kept initial_table default_coefficients_of default_rows default_vectors_of inter_y_probabilities_of inter_chroma_probabilities_of key_y_probabilities_of key_chroma_probabilities_of inter_subblock_probabilities_of subblock_probabilities_of split_probabilities_of vector_mode_probabilities_of sub_vector_probabilities_of mb_modes mb_mode intra_mode sub_modes sub_row inter_mode near_of noted put_motion read_vector component long_size bits_at split_vectors sub_vector parts outside segment_entries key_y_entries inter_y_entries chroma_entries subblock_entries vector_mode_entries split_entries sub_vector_entries short_vector_entries token_entries with_segments macroblocks tokens_of macroblock blocks places block levels token_size token_row bands_of category_bases_of category_bits_of listed_from inter_bytes inter_record key_state key_planes
+unfolding decode_of frame_of record_of tag_of sides_of first_part_of parts_of placed first_partition read widen next ◌>>=◌ number literal signed_literal each walk update_coefficients_of update_rows update_vectors_of header_over header_made segments segment_data filtering filter_deltas quantisers key_refreshing inter_refreshing coefficient_updates vector_updates inter_modes no_inter_modes modes initial_state initial_kept initial_table default_coefficients_of default_rows default_vectors_of inter_y_probabilities_of inter_chroma_probabilities_of key_y_probabilities_of key_chroma_probabilities_of inter_subblock_probabilities_of subblock_probabilities_of split_probabilities_of vector_mode_probabilities_of sub_vector_probabilities_of mb_modes mb_mode intra_mode sub_modes sub_row inter_mode near_of noted put_motion read_vector component long_size bits_at split_vectors sub_vector parts outside segment_entries key_y_entries inter_y_entries chroma_entries subblock_entries vector_mode_entries split_entries sub_vector_entries short_vector_entries token_entries with_segments macroblocks tokens_of macroblock blocks places block levels token_size token_row bands_of category_bases_of category_bits_of listed_from inter_bytes inter_record key_state key_planes
 inter_read = refl
 
 inter_unfiltered : Planes
