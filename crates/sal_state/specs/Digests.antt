@@ -23,15 +23,25 @@ signed_bytes zs = map signed_byte zs
 unfoldable pub planes_digest : Planes → List ℕ
 planes_digest p = sha256 (p.y.samples ++ p.u.samples ++ p.v.samples)
 
+-- the size of pictures
+abbrev pub size_bytes : References → List ℕ
+size_bytes r = two_bytes r.width ++ two_bytes r.height
+
 -- coefficient, vector, Y and chroma probabilities
 abbrev pub probability_bytes : Table → List ℕ
 probability_bytes t = t.coefficients ++ t.vectors ++ t.y ++ t.chroma
 
--- the segments' mode, quantisers and levels, the filter's deltas, the sign biases of golden and alt, and the segment map
-abbrev pub field_bytes : Kept → List ℕ
-field_bytes k =
-    bit_of k.absolute ∷ signed_bytes k.quantisers ++ signed_bytes k.levels ++ signed_bytes k.ref_deltas ++ signed_bytes k.mode_deltas
-    ++ bit_of k.bias_golden ∷ bit_of k.bias_alt ∷ k.map
+-- the segments' mode, quantisers and levels
+abbrev pub segment_bytes : Kept → List ℕ
+segment_bytes k = (bit_of k.absolute ∷ []) ++ signed_bytes k.quantisers ++ signed_bytes k.levels
+
+-- the filter's deltas by reference and by mode
+abbrev pub delta_bytes : Kept → List ℕ
+delta_bytes k = signed_bytes k.ref_deltas ++ signed_bytes k.mode_deltas
+
+-- the sign biases of golden and alt, and the segment map
+abbrev pub map_bytes : Kept → List ℕ
+map_bytes k = (bit_of k.bias_golden ∷ bit_of k.bias_alt ∷ []) ++ k.map
 
 -- the digests of last, golden and alt
 abbrev pub reference_bytes : References → List ℕ
@@ -39,7 +49,7 @@ reference_bytes r = planes_digest r.last ++ planes_digest r.golden ++ planes_dig
 
 -- a state with references as bytes
 unfoldable pub state_bytes : Kept → References → List ℕ
-state_bytes k r = two_bytes r.width ++ two_bytes r.height ++ probability_bytes k.probs ++ field_bytes k ++ reference_bytes r
+state_bytes k r = size_bytes r ++ probability_bytes k.probs ++ segment_bytes k ++ delta_bytes k ++ map_bytes k ++ reference_bytes r
 
 abbrev pub digest_from : Kept → Option References → List ℕ
 digest_from k (Some r) = sha256 (state_bytes k r)

@@ -1,2 +1,12 @@
-//! States of the decoder and their digests, so far as definitions (RFC 6386, sections 9.3, 9.6, 9.7 and 9.11).
+//! States of the decoder: what a frame is decoded from, their digests and their names (RFC 6386, sections 9.3, 9.6, 9.7 and 9.11).
 #![tactic(auto)]
+
+mod bytes;
+mod reference;
+mod state;
+
+pub use reference::Reference;
+pub use state::{References, State};
+
+#[cfg(test)]
+mod tests;
