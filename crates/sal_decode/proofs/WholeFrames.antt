@@ -39,7 +39,8 @@ use Rattle.sal_state.specs.States.{initial_state, initial_kept}
 use Rattle.sal_frame.specs.Built.{built, all_built, one_built, luma_built, chroma_built, subs_built}
 use Rattle.sal_frame.specs.Records.{segment_steps, filter_head, info_of}
 use Rattle.sal_frame.specs.Residues.{luma_residues, chroma_residues, firsts}
-use Rattle.sal_decode.specs.Decode.{decode_of, frame_of, record_of}
+use Rattle.sal_decode.specs.Decode.{decode_of}
+use Rattle.sal_decode.specs.Syntax.{frame_of, record_of}
 use Rattle.sal_decode.specs.FirstPartition.{first_partition, mb_modes, with_segments}
 use Rattle.sal_decode.specs.TokenPartitions.{macroblocks, tokens_of}
 

@@ -1,3 +1,4 @@
 pub mod Decode
 pub mod FirstPartition
+pub mod Syntax
 pub mod TokenPartitions

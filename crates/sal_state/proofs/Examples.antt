@@ -5,7 +5,8 @@ use Rattle.sal_base.specs.declared.picture.Planes.{Planes}
 use Rattle.sal_base.specs.Pictures.{plane}
 use Rattle.sal_header.specs.declared.header.Kept.{Kept}
 use Rattle.sal_state.specs.States.{References, initial_state}
-use Rattle.sal_state.specs.Digests.{planes_digest, state_bytes, digest_of, name_of}
+use Rattle.sal_state.specs.Digest.{planes_digest, state_bytes, digest_of}
+use Rattle.sal_state.specs.Name.{name_of}
 
 -- one probability of each sort, so that their order shows
 some_kept : Kept

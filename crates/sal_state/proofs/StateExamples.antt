@@ -6,7 +6,7 @@ use Rattle.sal_bool.specs.Written.{be_bytes}
 use Rattle.sal_state.specs.States.{StateData}
 use Rattle.sal_tables.specs.Tables.{default_coefficients_of, default_rows, default_vectors_of, inter_y_probabilities_of, inter_chroma_probabilities_of}
 use Rattle.sal_probs.specs.Probabilities.{initial_table}
-use Rattle.sal_state.specs.Digests.{digest_of, planes_digest, state_bytes}
+use Rattle.sal_state.specs.Digest.{digest_of, planes_digest, state_bytes}
 use Rattle.sal_state.specs.States.{initial_kept}
 use Rattle.sha2.specs.Sha256.{sha256, digest_bytes, hash_after, compress, rounds, schedule, first_words}
 

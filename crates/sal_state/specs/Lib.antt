@@ -1,2 +1,3 @@
-pub mod Digests
+pub mod Digest
+pub mod Name
 pub mod States

@@ -2,7 +2,7 @@
 
 ghost use Rattle.std.specs.Prelude.{◌≡◌, ◌∷◌, []};
 ghost use Rattle.sal_bool.specs.Syntax.{bit_of};
-ghost use Rattle.sal_state.specs.Digests.{two_bytes, signed_byte, signed_bytes};
+ghost use Rattle.sal_state.specs.Digest.{two_bytes, signed_byte, signed_bytes};
 
 use sal_header::Kept;
 

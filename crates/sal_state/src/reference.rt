@@ -3,7 +3,7 @@
 ghost use Rattle.std.specs.Prelude.{◌≡◌, ◌++◌, IfOk};
 ghost use Rattle.std.specs.Arc.{arc_value};
 ghost use Rattle.sal_state.specs.States.{AreWhole};
-ghost use Rattle.sal_state.specs.Digests.{planes_digest};
+ghost use Rattle.sal_state.specs.Digest.{planes_digest};
 
 use sal_base::{Memory, Planes};
 use sha2::{Digest, Sha256};
@@ -22,7 +22,7 @@ impl Model for Reference {
     ghost use Rattle.std.specs.Prelude.{◌≡◌};
     ghost use Rattle.sal_base.specs.declared.picture.Planes.{Planes as PlanesData};
     ghost use Rattle.sal_state.specs.States.{AreWhole};
-    ghost use Rattle.sal_state.specs.Digests.{planes_digest};
+    ghost use Rattle.sal_state.specs.Digest.{planes_digest};
 
     ghost Value = { PlanesData };
 
@@ -57,7 +57,7 @@ impl Reference {
 }
 
 // The digest of all samples, Y, U and V.
-#[tactic(auto, using(std::proofs::Common::append_assoc), unfolding(crate::specs::Digests::planes_digest))]
+#[tactic(auto, using(std::proofs::Common::append_assoc), unfolding(crate::specs::Digest::planes_digest))]
 fn digest_of(planes: &Planes) -> [u8; 32]
     ensures { result ≡ planes_digest planes.now }
 {

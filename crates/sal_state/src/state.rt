@@ -6,7 +6,8 @@ ghost use Rattle.sal_base.specs.Pictures.{blocks_of};
 ghost use Rattle.sal_state.specs.States.{initial_state, AreReferences, IsState};
 ghost use Rattle.sha2.specs.Sha256.{sha256};
 ghost use Rattle.sha2.specs.Hashers.{Holds256};
-ghost use Rattle.sal_state.specs.Digests.{digest_of, name_of, state_bytes, size_bytes, probability_bytes, segment_bytes, delta_bytes, map_bytes, reference_bytes};
+ghost use Rattle.sal_state.specs.Name.{name_of};
+ghost use Rattle.sal_state.specs.Digest.{digest_of, state_bytes, size_bytes, probability_bytes, segment_bytes, delta_bytes, map_bytes, reference_bytes};
 
 use crate::bytes::{bias_bytes, mode_byte, signed_bytes, two_bytes};
 use crate::reference::Reference;
@@ -105,7 +106,7 @@ impl State {
     }
 
     /// SHA-256 over the size, the kept data and the references' digests; zeros before the first key frame.
-    #[tactic(auto, unfolding(crate::specs::Digests::digest_of))]
+    #[tactic(auto, unfolding(crate::specs::Digest::digest_of))]
     pub fn digest(&self) -> [u8; 32]
         ensures { result ≡ digest_of self.now }
     {

@@ -1,6 +1,6 @@
 -- What was hashed piece by piece is the bytes of the state.
 use Rattle.std.proofs.Common.{[]}
-use Rattle.sal_state.specs.Digests.{state_bytes}
+use Rattle.sal_state.specs.Digest.{state_bytes}
 use Rattle.sal_state.proofs.state.digest_with.Goals as goal
 
 pub returns : goal.returns

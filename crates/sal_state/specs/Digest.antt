@@ -1,5 +1,5 @@
--- The digest of a state, and its name.
-use Rattle.std.specs.Prelude.{ℕ, ◌/◌, ◌%◌, ◌-◌, ℤ, pos, negsuc, List, [], ◌∷◌, ◌++◌, Option, Some, None, map, take, replicate}
+-- The digest of a state.
+use Rattle.std.specs.Prelude.{ℕ, ◌/◌, ◌%◌, ◌-◌, ℤ, pos, negsuc, List, [], ◌∷◌, ◌++◌, Option, Some, None, map, replicate}
 use Rattle.sha2.specs.Sha256.{sha256}
 use Rattle.sal_base.specs.declared.picture.Planes.{Planes}
 use Rattle.sal_bool.specs.Syntax.{bit_of}
@@ -58,7 +58,3 @@ digest_from k None = replicate 32 0
 -- a state's digest; zeros before the first key frame
 unfoldable pub digest_of : StateData → List ℕ
 digest_of s = digest_from s.kept s.references
-
--- a state's name: the first eight bytes of its digest and eight zeros
-abbrev pub name_of : StateData → List ℕ
-name_of s = take 8 (digest_of s) ++ replicate 8 0
