@@ -1,2 +1,3 @@
 mod Examples
 mod BlockExamples
+pub mod Blocks

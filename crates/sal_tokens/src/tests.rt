@@ -1,0 +1,130 @@
+//! Blocks read from bytes at the default probabilities; the values are an independent program's.
+
+use crate::read_block;
+use sal_bool::Decoder;
+use sal_macroblock::Block;
+use sal_probs::Probs;
+use std::alloc::Global;
+
+/// A block's kind, context and bytes, its levels, and whether its first token isn't the end.
+type Row = (u8, u8, &'static [u8], [i32; 16], bool);
+
+const ROWS: [Row; 9] = [
+    (
+        0,
+        0,
+        &[0xbd, 0x2f, 0xf8, 0x41, 0x24, 0x43],
+        [0, 0, 0, 0, 0, 0, 0, 0, 0, 0, 0, 0, 0, 0, 0, 0],
+        false,
+    ),
+    (
+        0,
+        2,
+        &[
+            0xba, 0x8f, 0x17, 0xe3, 0xc0, 0xc1, 0x45, 0x46, 0xc4, 0x43, 0x61, 0xb8, 0xa8, 0xad,
+            0xd6,
+        ],
+        [0, 1, 0, 0, 0, 0, 0, 0, 0, 0, 0, 0, 0, 0, 0, 0],
+        true,
+    ),
+    (
+        1,
+        0,
+        &[
+            0xed, 0xa5, 0x7f, 0x02, 0xdf, 0x50, 0xcb, 0x05, 0xd4, 0x90, 0xcd, 0x88, 0xe6, 0x25,
+        ],
+        [-1, 0, 0, 0, 0, 0, 0, 0, 0, 0, 0, 0, 0, 0, 0, 0],
+        true,
+    ),
+    (
+        2,
+        1,
+        &[
+            0xa1, 0xbb, 0x2b, 0x63, 0x48, 0x88, 0x7d, 0x08, 0xde, 0xf9, 0xa8, 0x4e, 0x0d, 0x4e,
+            0x3a, 0x11, 0xfd, 0x78, 0x03, 0x38,
+        ],
+        [0, 0, 0, 0, 0, 0, 0, 0, 0, 0, 0, 0, 0, 0, 0, 0],
+        false,
+    ),
+    (
+        2,
+        2,
+        &[
+            0xbf, 0xcf, 0x20, 0x34, 0x19, 0x66, 0x3b, 0x78, 0x79, 0xe8, 0x26, 0x03, 0x8a, 0x82,
+            0x43, 0x21, 0x31, 0xb1, 0xe2, 0x02, 0x0c,
+        ],
+        [-1, 0, 0, 0, 0, 0, 0, 0, 0, 0, 0, 0, 0, 0, 0, 0],
+        true,
+    ),
+    (
+        3,
+        2,
+        &[
+            0xb5, 0xb0, 0x5a, 0x53, 0xc9, 0x9d, 0x9f, 0x0f, 0xfc, 0x59, 0x5a, 0x77, 0xab, 0xeb,
+            0x86, 0x3d, 0x3d, 0x35,
+        ],
+        [-1, -2, 2, 0, 0, 2, 1, 0, 0, 0, 0, 0, 0, 0, 0, 0],
+        true,
+    ),
+    // The least or greatest level of each category, of either sign.
+    (
+        1,
+        0,
+        &[
+            0xfe, 0x67, 0xdb, 0x58, 0x3f, 0xfc, 0x5c, 0xff, 0x7f, 0xfe, 0x0d, 0x7f, 0xf3, 0xdf,
+            0xff, 0xe8, 0xf3, 0xff, 0xbf, 0x93, 0xff, 0xc1, 0x03, 0xff, 0xbf, 0x9c, 0xff, 0xe0,
+            0x9d, 0xff, 0xff, 0xff, 0xff, 0xd1, 0x76, 0x70, 0x08, 0x00,
+        ],
+        [
+            4, 5, -6, 7, -10, 11, 18, -19, 34, 35, 66, -67, 2047, 1, -2, 3,
+        ],
+        true,
+    ),
+    // The greatest level, after a zero and before three.
+    (
+        1,
+        0,
+        &[0xcc, 0xff, 0xff, 0xff, 0xff, 0xff, 0xff, 0xe2, 0xc4, 0xea],
+        [0, -2114, 0, 0, 0, 1, 0, 0, 0, 0, 0, 0, 0, 0, 0, -1],
+        true,
+    ),
+    (
+        3,
+        0,
+        &[
+            0xce, 0x3f, 0xff, 0xff, 0xff, 0xff, 0xff, 0xf0, 0x86, 0x88, 0xe0,
+        ],
+        [0, -2114, 0, 0, 0, 1, 0, 0, 0, 0, 0, 0, 0, 0, 0, -1],
+        true,
+    ),
+];
+
+/// What is read of a block at the default probabilities, or none for want of memory.
+fn read(alloc: Global, kind: u8, context: u8, bytes: &[u8]) -> Option<(Block, bool)> {
+    if kind > 3 || context > 2 {
+        return None;
+    }
+    let probs = Probs::initial(alloc).ok()?;
+    Some(read_block(&mut Decoder::new(bytes), &probs, kind, context))
+}
+
+#[test]
+fn levels_of_blocks(rt: HostRuntime) {
+    for (kind, context, bytes, levels, some) in ROWS {
+        assert_eq!(rt;
+            read(rt.alloc(), kind, context, bytes),
+            Some((Block(levels), some)),
+            "kind {kind}, context {context}"
+        );
+    }
+}
+
+#[test]
+fn past_the_end_are_zero_bytes(rt: HostRuntime) {
+    for kind in 0..4u8 {
+        assert_eq!(rt;
+            read(rt.alloc(), kind, 0, &[]),
+            Some((Block([0; 16]), false))
+        );
+    }
+}
