@@ -4,6 +4,7 @@ pub mod Script
 pub mod Session
 pub mod Shown
 pub mod Loop
+pub mod Numbers
 pub mod Run
 pub mod Reads
 pub mod Ends
