@@ -1,0 +1,14 @@
+pub mod Thread
+pub mod Budgets
+pub mod Sound
+pub mod Older
+pub mod Spare
+pub mod Chains
+pub mod Quiet
+pub mod HandedOut
+pub mod NewlyNamed
+pub mod ReportedBack
+pub mod Heard
+pub mod Starting
+pub mod Started
+pub mod Sized

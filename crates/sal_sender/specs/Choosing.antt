@@ -1,0 +1,137 @@
+-- Which report is chosen.
+use Rattle.std.specs.Prelude.{ℕ, ◌+◌, max, min, Bool, true, false, ◌&&◌, List, [], ◌∷◌, ◌++◌, length, map, filter, find, filter_map, Option, Some, None, ◌==◌, nat_le, if◌then◌else◌}
+use Rattle.std.specs.Option.{option_map}
+use Rattle.std.specs.List.{list_any}
+use Rattle.sal_base.specs.declared.coding.Encoding.{Encoding}
+use Rattle.sal_base.specs.declared.coding.Encoding.TheVariants.{Frame, Oversize}
+use Rattle.sal_codec.specs.Coding.{Coding}
+use Rattle.sal_wire.specs.Pieces.{count_of}
+use Rattle.sal_wire.specs.Spelling.{text}
+use Rattle.sal_budget.specs.Budget.{budget_of, least_of}
+use Rattle.sal_sender.specs.declared.choice.JobRole.TheVariants.{Coarse, Spare, Fine}
+use Rattle.sal_sender.specs.declared.choice.Choice.{Choice}
+use Rattle.sal_sender.specs.declared.choice.Size.{Size}
+use Rattle.sal_sender.specs.declared.choice.Size.TheVariants.{Datagrams, NoMemory}
+use Rattle.sal_sender.specs.declared.choice.Size.TheVariants.{Oversize as TooLarge}
+use Rattle.sal_sender.specs.declared.answers.Reported.TheVariants.{Kept}
+use Rattle.sal_sender.specs.declared.answers.Chosen.{Chosen}
+use Rattle.sal_sender.specs.declared.answers.Chosen.TheVariants.{NoPicture, Waiting, Sent, Nothing}
+use Rattle.sal_sender.specs.Past.{Call, Past, Report, choices, pictures, tip, floor, sent, now, opened}
+use Rattle.sal_sender.specs.Chain.{picture_at, state_at}
+use Rattle.sal_sender.specs.OneThread.{Session, burst_after}
+use Rattle.sal_sender.specs.Acks.{safe, lost, average, flight}
+use Rattle.sal_sender.specs.Jobs.{Job, kind_of, base, jobs}
+
+abbrev pub is_coarse : Job → Bool
+is_coarse job = elim job.role [ Coarse ↦ true | Spare ↦ false | Fine ↦ false ]
+
+abbrev pub is_spare : Job → Bool
+is_spare job = elim job.role [ Coarse ↦ false | Spare ↦ true | Fine ↦ false ]
+
+abbrev pub is_fine : Job → Bool
+is_fine job = elim job.role [ Coarse ↦ false | Spare ↦ false | Fine ↦ true ]
+
+-- the picture was to go on from the tip, the tip's chain is lost since, and a spare job was planned for that
+abbrev pub lost_since : Past → Past → Bool
+lost_since before past = base before == tip before && lost past && list_any is_spare (jobs before)
+
+-- the candidates, the one that is wanted most first
+abbrev pub eligible : Bool → List Job → List Job
+eligible true all = filter is_spare all
+eligible false all = filter is_fine all ++ filter is_coarse all
+
+-- the job without whose report nothing is chosen
+abbrev pub needed : Bool → List Job → Option Job
+needed true all = find is_spare all
+needed false all = find is_coarse all
+
+abbrev pub report_in : ℕ → Call → Option Bool
+report_in id (Report job ran Kept) = if job == id then Some ran else None
+report_in id _ = None
+
+abbrev pub first_of : {X : Type 0} → List X → Option X
+first_of [] = None
+first_of (x ∷ xs) = Some x
+
+-- whether the job was reported while its picture was open, and then whether it ran
+abbrev pub reported : Past → ℕ → Option Bool
+reported past id = first_of (filter_map (report_in id) past)
+
+-- the size of a report
+abbrev pub size_of : {S : Type 0} → Encoding S → Bool → Size
+size_of encoding false = NoMemory
+size_of (Frame bytes target recon) true = Datagrams (count_of bytes)
+size_of (Oversize first) true = TooLarge first
+
+abbrev pub Candidate : Type 0
+Candidate = Job × Size
+
+abbrev pub fits : ℕ → Candidate → Bool
+fits budget (job, Datagrams n) = nat_le n budget
+fits budget (job, TooLarge first) = false
+fits budget (job, NoMemory) = false
+
+-- what may be sent at this moment
+abbrev pub may_send : Session → Past → ℕ → ℕ
+may_send session past moment = budget_of (average past) (least_of session.head.width session.head.height) (flight past) moment
+
+-- the floor that a choice sets: its own number where it is a key frame, else no more than its source
+abbrev pub floor_after : Past → ℕ → ℕ
+floor_after past source = if source == 0 then tip past + 1 else max (floor past) (min (safe past) source)
+
+abbrev pub choice_of : Past → ℕ → Job → ℕ → Choice
+choice_of past moment job count = record {
+  number = tip past + 1;
+  picture = length (pictures past);
+  source = job.source;
+  job = job.id;
+  q = job.q;
+  kind = kind_of job.source;
+  floor = floor_after past job.source;
+  count = count;
+  first_serial = sent past + 1;
+  moment = moment;
+}
+
+abbrev pub count_in : Size → ℕ
+count_in (Datagrams n) = n
+count_in (TooLarge first) = 0
+count_in NoMemory = 0
+
+module _ {S : Type 0} (codec : Coding S) where
+  -- the eligible reports, with their sizes
+  abbrev pub candidates : Past → Past → List Candidate
+  candidates before past = filter_map sized (eligible (lost_since before past) (jobs before))
+    where
+      sized : Job → Option Candidate
+      sized job = option_map (λ ran. (job, size_of (codec.encode (state_at codec past job.source) (picture_at (pictures past) (length (pictures past))) job.q (kind_of job.source)) ran)) (reported past job.id)
+
+module _ {S : Type 0} (codec : Coding S) (session : Session) where
+  abbrev pub sent_with : Past → Choice → Chosen
+  sent_with past choice =
+      Sent choice (map text (burst_after codec session (pictures past) (choices past) choice (sent past)))
+
+  -- the first candidate that fits, or the budget and all sizes
+  abbrev pub choose_found : Past → ℕ → ℕ → List Candidate → Option Candidate → Chosen
+  choose_found past moment budget all None = Nothing budget (map (λ c. c.1) all)
+  choose_found past moment budget all (Some found) = sent_with past (choice_of past moment found.0 (count_in found.1))
+
+  abbrev pub choose_among : Past → ℕ → ℕ → List Candidate → Chosen
+  choose_among past moment budget all = choose_found past moment budget all (find (fits budget) all)
+
+  -- nothing is chosen before the needed report is in
+  abbrev pub choose_reported : Past → Past → ℕ → Job → Option Bool → Chosen
+  choose_reported before past moment job None = Waiting job.id
+  choose_reported before past moment job (Some ran) = choose_among past moment (may_send session past moment) (candidates codec before past)
+
+  abbrev pub choose_needed : Past → Past → ℕ → Option Job → Chosen
+  choose_needed before past moment None = NoPicture
+  choose_needed before past moment (Some job) = choose_reported before past moment job (reported past job.id)
+
+  abbrev pub choose_opened : Past → ℕ → Option Past → Chosen
+  choose_opened past moment None = NoPicture
+  choose_opened past moment (Some before) = choose_needed before past moment (needed (lost_since before past) (jobs before))
+
+  -- what a choice at this moment is answered, but for want of memory
+  unfoldable pub chosen : Past → ℕ → Chosen
+  chosen past moment = choose_opened past (max (now past) moment) (opened past)

@@ -1,0 +1,17 @@
+pub mod Past
+pub mod Chain
+pub mod OneThread
+pub mod Acks
+pub mod Jobs
+pub mod Choosing
+pub mod Answers
+pub mod Promises
+pub mod Sound
+pub mod Tally
+pub mod Links
+pub mod Work
+pub mod Seats
+pub mod Machine
+pub mod Stands
+pub mod Hearing
+pub mod Planned

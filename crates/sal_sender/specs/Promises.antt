@@ -1,0 +1,53 @@
+-- What holds of every past of a sender, whatever came in whatever order.
+use Rattle.std.specs.Prelude.{◌≡◌, ◌⊎◌, ℕ, max, ◌≤◌, false, [], ◌∷◌, map, Some, IsSome}
+use Rattle.sal_base.specs.Lists.{Each}
+use Rattle.sal_codec.specs.Coding.{Coding}
+use Rattle.sal_wire.specs.Spelling.{text}
+use Rattle.sal_sender.specs.declared.answers.Next.TheVariants.{Memory as NextMemory}
+use Rattle.sal_sender.specs.declared.answers.Chosen.TheVariants.{Sent, Nothing, Memory as ChosenMemory}
+use Rattle.sal_sender.specs.Past.{Call, Past, NextPicture, TakeJob, Report, Choose, Hear, choices, pictures, datagrams, opened, now}
+use Rattle.sal_sender.specs.OneThread.{Session, one_thread}
+use Rattle.sal_sender.specs.Jobs.{Job, jobs}
+use Rattle.sal_sender.specs.Choosing.{fits, lost_since, needed, reported, candidates, may_send, chosen}
+use Rattle.sal_sender.specs.Answers.{next_answer, take_answer, report_answer, heard_answer}
+
+-- sent is what one thread sends that makes these choices
+abbrev pub IsWhatOneThreadSends : {S : Type 0} → Coding S → Session → Past → Type 0
+IsWhatOneThreadSends codec session past = datagrams past ≡ map text (one_thread codec session (pictures past) (choices past))
+
+module _ {S : Type 0} (codec : Coding S) (session : Session) where
+  -- a call may be answered so after a past
+  abbrev pub Answers : Call → Past → Type 0
+  Answers (NextPicture picture moment answer) past = (answer ≡ next_answer past) ⊎ (answer ≡ NextMemory)
+  Answers (TakeJob answer) past = answer ≡ take_answer past
+  Answers (Report job ran answer) past = answer ≡ report_answer past job
+  Answers (Choose moment answer) past = (answer ≡ chosen codec session past moment) ⊎ (answer ≡ ChosenMemory)
+  Answers (Hear came moment answer) past = answer ≡ heard_answer codec session past came
+
+  -- each call was answered so after the calls before it
+  abbrev pub IsLegal : Past → Type 0
+  IsLegal [] = Unit {0}
+  IsLegal (call ∷ past) = Answers call past × IsLegal past
+
+  -- no eligible report fits, though the needed one is in
+  pub record NothingFits (past : Past) (moment : ℕ) : Type 0 where
+    pub before : Past
+    pub opened_there : opened past ≡ Some before
+    pub job : Job
+    pub wanted : needed (lost_since before past) (jobs before) ≡ Some job
+    pub in_already : IsSome (reported past job.id)
+    pub none : Each (λ c. fits (may_send session past moment) c ≡ false) (candidates codec before past)
+
+  -- a choice has at most what may be sent at its moment; nothing is chosen only where nothing fits
+  abbrev pub Fits : Call → Past → Type 0
+  Fits (Choose moment (Sent choice burst)) past = choice.count ≤ may_send session past choice.moment
+  Fits (Choose moment (Nothing budget sizes)) past = NothingFits past (max (now past) moment)
+  Fits _ past = Unit {0}
+
+  abbrev pub FitsItsBudget : Past → Type 0
+  FitsItsBudget [] = Unit {0}
+  FitsItsBudget (call ∷ past) = Fits call past × FitsItsBudget past
+
+  -- a machine that stood for a past answered the call as it may after it, and stands for the past with the call
+  abbrev pub Answered : {M : Type 0} → (M → Past → Type 0) → M → M → Call → Type 0
+  Answered stands old new call = (past : Past) → stands old past → Answers call past × stands new (call ∷ past)

@@ -1,0 +1,132 @@
+//! One encoding of a picture, handed out.
+
+ghost use Rattle.std.specs.Prelude.{◌≡◌, false};
+ghost use Rattle.std.specs.Arc.{arc_value};
+ghost use Rattle.sal_codec.specs.Coding.{MayEncode};
+ghost use Rattle.sal_sender.specs.Chain.{name_in};
+ghost use Rattle.sal_sender.specs.Work.{Work, IsOutcome};
+
+use crate::choice::JobRole;
+use crate::outcome::Outcome;
+use crate::report::Report;
+use sal_base::{Encoding, Kind, Name, Picture};
+use sal_codec::Codec;
+use std::alloc::Global;
+use std::marker::Model;
+use std::sync::Arc;
+
+/// A picture that is to be encoded from a state.
+#[derive(Drop)]
+pub struct Job<C: Codec> {
+    id: u32,
+    picture: u32,
+    role: JobRole,
+    q: u8,
+    kind: Kind,
+    source: Arc<C::State>,
+    source_name: Name,
+    samples: Arc<Picture>,
+}
+
+impl<C: Codec> Model for Job<C> {
+    ghost use Rattle.std.specs.Prelude.{◌≡◌};
+    ghost use Rattle.std.specs.Arc.{arc_value};
+    ghost use Rattle.sal_codec.specs.Coding.{MayEncode};
+    ghost use Rattle.sal_sender.specs.Chain.{name_in};
+    ghost use Rattle.sal_sender.specs.Work.{Work};
+
+    ghost Value = { Work C.State };
+
+    ghost view = { λ j. record { id = j.id; picture = j.picture; role = j.role; q = j.q; kind = j.kind; source = arc_value j.source; samples = arc_value j.samples } };
+
+    ghost invariant = { λ j. MayEncode C.coding (arc_value j.source) (arc_value j.samples) j.q j.kind × (j.source_name.0 ≡ name_in C.coding (arc_value j.source)) };
+}
+
+impl<C: Codec> Job<C> {
+    pub(crate) fn new(
+        id: u32,
+        picture: u32,
+        role: JobRole,
+        q: u8,
+        kind: Kind,
+        source: Arc<C::State>,
+        source_name: Name,
+        samples: Arc<Picture>,
+    ) -> Job<C>
+        requires fits { MayEncode C.coding (arc_value source) (arc_value samples) q kind }
+        requires named { source_name.0 ≡ name_in C.coding (arc_value source) }
+        ensures { result ≡ record { id = id; picture = picture; role = role; q = q; kind = kind; source = arc_value source; samples = arc_value samples } }
+    {
+        Job {
+            id,
+            picture,
+            role,
+            q,
+            kind,
+            source,
+            source_name,
+            samples,
+        }
+    }
+
+    /// The job's own number, from 1, rising over the session.
+    pub fn id(&self) -> u32
+        ensures { result ≡ self.now.id }
+    {
+        self.id
+    }
+
+    /// The picture's number, from 1.
+    pub fn picture(&self) -> u32
+        ensures { result ≡ self.now.picture }
+    {
+        self.picture
+    }
+
+    pub fn role(&self) -> JobRole
+        ensures { result ≡ self.now.role }
+    {
+        self.role
+    }
+
+    /// The quantiser, 0 to 127.
+    pub fn q(&self) -> u8
+        ensures { result ≡ self.now.q }
+    {
+        self.q
+    }
+
+    pub fn kind(&self) -> Kind
+        ensures { result ≡ self.now.kind }
+    {
+        self.kind
+    }
+
+    /// Encodes the picture. This is the only maker of a report.
+    pub fn run(self, alloc: Global, codec: &C) -> Report<C>
+        ensures { result.work ≡ self }
+    {
+        let encoded = codec.encode(alloc, &self.source, &self.samples, self.q, self.kind);
+        match encoded {
+            Ok(
+                Encoding::Frame {
+                    bytes,
+                    target,
+                    recon,
+                },
+            ) => {
+                let name = codec.name(&target);
+                match Arc::new(alloc, target) {
+                    Ok(target) => Report::new(self, name, Outcome::Frame(bytes, target, recon)),
+                    Err(_) => Report::new(self, Name::ZERO, Outcome::NoMemory),
+                }
+            }
+            Ok(Encoding::Oversize { first }) => Report::new(
+                self,
+                Name::ZERO,
+                Outcome::Oversize(first),
+            ),
+            Err(_) => Report::new(self, Name::ZERO, Outcome::NoMemory),
+        }
+    }
+}

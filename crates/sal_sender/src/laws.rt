@@ -1,0 +1,26 @@
+//! What holds of every sender, whatever it hears in whatever order.
+
+ghost use Rattle.sal_sender.specs.Past.{Past};
+ghost use Rattle.sal_sender.specs.OneThread.{Session};
+ghost use Rattle.sal_sender.specs.Promises.{IsLegal, IsWhatOneThreadSends, FitsItsBudget};
+ghost use Rattle.sal_sender.specs.Sound.{IsSound};
+
+use sal_codec::Codec;
+
+/// Sent is what one thread sends that makes the same choices.
+#[tactic(auto, using(crate::proofs::Thread::thread))]
+pub fn sends_as_one_thread<C: Codec>()
+    ensures { (session : Session) (past : Past) → IsLegal C.coding session past → IsWhatOneThreadSends C.coding session past }
+{}
+
+/// A choice fits its budget, and nothing is chosen only where nothing fits.
+#[tactic(auto, using(crate::proofs::Budgets::budget_of_legal))]
+pub fn fits_its_budget<C: Codec>()
+    ensures { (session : Session) (past : Past) → IsLegal C.coding session past → FitsItsBudget C.coding session past }
+{}
+
+/// Choices are counted from 1, their sources are older, floors never fall, and the window has sixteen numbers.
+#[tactic(auto, using(crate::proofs::Sound::sound))]
+pub fn keeps_its_window<C: Codec>()
+    ensures { (session : Session) (past : Past) → IsLegal C.coding session past → IsSound past }
+{}

@@ -1,0 +1,96 @@
+//! The jobs of a picture and their reports.
+
+ghost use Rattle.std.specs.Prelude.{◌≡◌, [], drop};
+ghost use Rattle.std.specs.Option.{option_map};
+ghost use Rattle.sal_sender.specs.Seats.{listed, first_in, is_job_of, is_open_job, with_report};
+
+use crate::choice::JobRole;
+
+/// One job of the open picture, and its report where that is in.
+#[derive(Drop)]
+pub struct Seat<R> {
+    pub id: u32,
+    pub role: JobRole,
+    pub source: u32,
+    pub q: u8,
+    pub report: Option<R>,
+}
+
+/// The jobs of the open picture, and whether it was to go on from the tip.
+#[derive(Drop)]
+pub struct Open<R> {
+    pub from_tip: bool,
+    pub coarse: Seat<R>,
+    pub spare: Option<Seat<R>>,
+    pub fine: Seat<R>,
+}
+
+/// The jobs of the newest picture that weren't handed out.
+#[derive(Drop)]
+pub struct Queue<J> {
+    pub coarse: Option<J>,
+    pub spare: Option<J>,
+    pub fine: Option<J>,
+}
+
+impl<J: Drop> Queue<J> {
+    /// No jobs.
+    pub(crate) fn new() -> Queue<J>
+        ensures { listed result ≡ [] }
+    {
+        Queue {
+            coarse: None,
+            spare: None,
+            fine: None,
+        }
+    }
+
+    /// Takes the first one out.
+    pub(crate) fn take(&mut self) -> Option<J>
+        ensures first { result ≡ first_in (listed self.old) }
+        ensures rest { listed self.new ≡ drop 1 (listed self.old) }
+    {
+        if self.coarse.is_some() {
+            return self.coarse.take();
+        }
+        if self.spare.is_some() {
+            return self.spare.take();
+        }
+        self.fine.take()
+    }
+}
+
+impl<R: Drop> Open<R> {
+    /// Keeps a report under its job, if that is one of these.
+    pub(crate) fn keep(&mut self, id: u32, report: R) -> bool
+        ensures known { result ≡ is_job_of id self.old }
+        ensures kept { self.new ≡ with_report id report self.old }
+    {
+        if self.coarse.id == id {
+            self.coarse.report = Some(report);
+            return true;
+        }
+        if self.fine.id == id {
+            self.fine.report = Some(report);
+            return true;
+        }
+        match &mut self.spare {
+            Some(spare) if spare.id == id => {
+                spare.report = Some(report);
+                true
+            }
+            _ => false,
+        }
+    }
+}
+
+/// Keeps a report under its job, if that is one of the open picture.
+pub(crate) fn keep<R: Drop>(seats: &mut Option<Open<R>>, id: u32, report: R) -> bool
+    ensures known { result ≡ is_open_job id seats.old }
+    ensures kept { seats.new ≡ option_map (with_report id report) seats.old }
+{
+    match seats {
+        Some(open) => open.keep(id, report),
+        None => false,
+    }
+}

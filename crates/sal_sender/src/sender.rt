@@ -1,0 +1,397 @@
+//! The sender.
+
+ghost use Rattle.std.specs.Prelude.{◌≡◌, ◌≤◌, ◌<◌, ◌+◌, ◌^◌, [], ◌∷◌, ◌++◌, replicate, false, is_ok, map, IfOk, OnOk, OnErr, IfSome, None, Some, slice_set, if◌then◌else◌};
+ghost use Rattle.std.specs.Option.{option_map};
+ghost use Rattle.sal_base.specs.Picture.{AreSides};
+ghost use Rattle.sal_codec.specs.Coding.{HasSides};
+ghost use Rattle.sal_sender.specs.Past.{Past, NextPicture, TakeJob, Report as ReportCall, Choose, Hear};
+ghost use Rattle.sal_sender.specs.OneThread.{Session};
+ghost use Rattle.sal_sender.specs.Promises.{Answers, Answered};
+ghost use Rattle.sal_sender.specs.Answers.{report_answer};
+ghost use Rattle.sal_sender.specs.declared.choice.JobRole.TheVariants.{Spare};
+ghost use Rattle.sal_sender.specs.declared.answers.Reported.TheVariants.{Kept, Late, Stranger};
+ghost use Rattle.sal_sender.specs.declared.answers.Ignore.{Ignore as IgnoreData};
+ghost use Rattle.sal_sender.specs.declared.answers.HeardAck.TheVariants.{Ignored};
+ghost use Rattle.sal_sender.specs.Answers.{starts};
+ghost use Rattle.sal_sender.specs.Seats.{listed, first_in};
+ghost use Rattle.sal_wire.specs.Reading.{came};
+ghost use Rattle.sal_sender.specs.Hearing.{judged, after_ack};
+ghost use Rattle.std.specs.Arc.{arc_value};
+ghost use Rattle.sal_sender.specs.Planned.{plan_of, count_of, coarse_q, work_from, queue_of, after_start};
+ghost use Rattle.sal_sender.specs.Machine.{Machine, IsHead, IsSized, flag};
+ghost use Rattle.sal_sender.specs.Stands.{Stands, IsOwnWork};
+
+use crate::answers::{HeardAck, Ignore, Next, Reported};
+use crate::choice::JobRole;
+use crate::hearing::{first_wrong, newly_named};
+use crate::job::Job;
+use crate::link::{Link, acknowledge, lost_in, safe_in};
+use crate::plan::Plan;
+use crate::report::Report;
+use crate::seat::{Open, Queue, keep};
+use crate::tally::Tally;
+use sal_base::{Kind, Memory, Name, Picture};
+use sal_chain::Store;
+use sal_codec::{Codec, keeps_the_law};
+use sal_wire::{Ack, Datagram, read};
+use sal_y4m::Head;
+use std::alloc::{AllocError, Global};
+use std::marker::Model;
+use std::sync::Arc;
+
+/// A sender of one session: what it chose, what of that is known to be held, and the open picture.
+#[derive(Drop)]
+pub struct Sender<C: Codec> {
+    session: u32,
+    head: Head,
+    initial: Arc<C::State>,
+    store: Store<C>,
+    links: Vec<Link>,
+    tally: Tally,
+    open: Option<Open<Report<C>>>,
+    waiting: Queue<Job<C>>,
+    out: Vec<bool>,
+    tip: u32,
+    floor: u32,
+    sent: u32,
+    pictures: u32,
+    last_job: u32,
+    q: u8,
+}
+
+impl<C: Codec> Model for Sender<C> {
+    ghost use Rattle.std.specs.Prelude.{◌≡◌};
+    ghost use Rattle.std.specs.Arc.{arc_value};
+    ghost use Rattle.sal_wire.specs.Reading.{came};
+    ghost use Rattle.sal_sender.specs.Hearing.{judged, after_ack};
+    ghost use Rattle.sal_sender.specs.Machine.{Machine, IsWell};
+
+    ghost Value = { Machine C.State };
+
+    ghost view = { λ s. record { session = record { number = s.session; head = s.head }; shelf = s.store; links = s.links.items; tally = s.tally; seats = s.open; waiting = s.waiting; out = s.out.items; tip = s.tip; floor = s.floor; sent = s.sent; pictures = s.pictures; last_job = s.last_job; q = s.q } };
+
+    ghost invariant = { λ s. IsWell C.coding (record { session = record { number = s.session; head = s.head }; shelf = s.store; links = s.links.items; tally = s.tally; seats = s.open; waiting = s.waiting; out = s.out.items; tip = s.tip; floor = s.floor; sent = s.sent; pictures = s.pictures; last_job = s.last_job; q = s.q }) × (arc_value s.initial ≡ C.coding.initial) };
+}
+
+/// The most pictures of a session.
+const MOST_PICTURES: u32 = 1_048_575;
+
+/// How many numbers there are from the floor on.
+const WINDOW: u32 = 16;
+
+/// The number to go on from.
+fn onward_of(is_full: bool, is_lost: bool, safe: u32, tip: u32) -> u32
+    ensures { result ≡ (if is_full then 0 else if is_lost then safe else tip) }
+{
+    if is_full {
+        0
+    } else if is_lost {
+        safe
+    } else {
+        tip
+    }
+}
+
+/// Says of a job whether it is out.
+#[tactic(auto, using(std::proofs::lemmas::List::set_past))]
+fn mark(out: &mut Vec<bool>, id: u32, is_out: bool)
+    ensures { out.new.items ≡ slice_set out.old.items id is_out }
+{
+    let place = id as usize;
+    if place < out.len() {
+        out[place] = is_out;
+    }
+}
+
+/// Adds jobs that aren't out; want of memory changes nothing.
+fn grow(out: &mut Vec<bool>, count: u32) -> Result<(), AllocError>
+    requires { count ≤ 3 }
+    ensures { out.new.items ≡ (if is_ok result then out.old.items ++ replicate count false else out.old.items) }
+{
+    out.resize(out.len() + count as usize, false)
+}
+
+/// Whether a job is out.
+fn is_out(out: &[bool], id: u32) -> bool
+    ensures { result ≡ flag out.now id }
+{
+    match out.get(id as usize) {
+        Some(is_out) => *is_out,
+        None => false,
+    }
+}
+
+/// What the report of a job that was out is answered.
+fn known(is_open: bool) -> Reported
+    ensures { result ≡ (if is_open then Kept else Late) }
+{
+    if is_open {
+        Reported::Kept
+    } else {
+        Reported::Late
+    }
+}
+
+impl<C: Codec> Sender<C> {
+    /// A sender that was given no call yet.
+    pub fn new(alloc: Global, codec: C, session: u32, head: Head) -> Result<Sender<C>, Memory>
+        requires { IsHead head }
+        ensures session { IfOk result (λ s. s.session ≡ record { number = session; head = head }) }
+        ensures stands { IfOk result (λ s. Stands C.coding s []) }
+    {
+        let initial = Arc::new(alloc, codec.initial(alloc)?)?;
+        let store = Store::new(alloc)?;
+        let out = vec![in alloc; false; 1]?;
+        Ok(Sender {
+            session,
+            head,
+            initial,
+            store,
+            links: Vec::new(alloc),
+            tally: Tally::new(),
+            open: None,
+            waiting: Queue::new(),
+            out,
+            tip: 0,
+            floor: 1,
+            sent: 0,
+            pictures: 0,
+            last_job: 0,
+            q: 40,
+        })
+    }
+
+    #[tactic(auto, using(crate::proofs::Sized::rest_sized, crate::proofs::Sized::first_sized))]
+    /// Hands out the job of the least number that wasn't handed out.
+    pub fn take_job(&mut self) -> Option<Job<C>>
+        ensures first { result ≡ first_in (listed self.old.waiting) }
+        ensures answered { Answered C.coding self.old.session (Stands C.coding) self.old self.new (TakeJob (option_map (λ w. w.id) result)) }
+        ensures sized { IfSome result (IsSized self.old.session.head) }
+        ensures refused { result ≡ None → self.new ≡ self.old }
+        ensures session { self.new.session ≡ self.old.session }
+    {
+        let job = self.waiting.take()?;
+        mark(&mut self.out, job.id(), true);
+        Some(job)
+    }
+
+    /// Takes the report of a job that this sender handed out.
+    pub fn report(&mut self, report: Report<C>) -> Reported
+        requires size { HasSides self.old.session.head.width self.old.session.head.height report.work.samples }
+        ensures answer { (past : Past) → Stands C.coding self.old past → result ≡ report_answer past report.work.id }
+        ensures answered { (past : Past) → Stands C.coding self.old past → IsOwnWork C.coding past report.work → Answers C.coding self.old.session (ReportCall report.work.id report.ran result) past × Stands C.coding self.new (ReportCall report.work.id report.ran result ∷ past) }
+        ensures refused { result ≡ Stranger → self.new ≡ self.old }
+        ensures session { self.new.session ≡ self.old.session }
+    {
+        let id = report.id();
+        if !is_out(self.out.as_slice(), id) {
+            return Reported::Stranger;
+        }
+        mark(&mut self.out, id, false);
+        let is_open = keep(&mut self.open, id, report);
+        known(is_open)
+    }
+
+    /// What an acknowledgement is to be answered.
+    fn judge(&self, ack: &Ack) -> HeardAck
+        ensures { result ≡ judged self.now ack.now }
+    {
+        if ack.session != self.session {
+            return HeardAck::Ignored(Ignore::Session);
+        }
+        if self.sent < ack.serial {
+            return HeardAck::Ignored(Ignore::Serial(self.sent, ack.serial));
+        }
+        let held = ack.held.as_slice();
+        if let Some(why) = first_wrong(&self.store, self.floor, self.tip, held) {
+            return HeardAck::Ignored(why);
+        }
+        let numbers = newly_named(self.links.as_slice(), self.floor, held);
+        if numbers.as_slice().is_empty() && ack.serial <= self.tally.heard {
+            return HeardAck::Ignored(Ignore::Old);
+        }
+        HeardAck::Heard(numbers)
+    }
+
+    /// Takes an acknowledgement.
+    fn take_ack(&mut self, ack: &Ack, moment: u64) -> HeardAck
+        ensures answer { result ≡ judged self.old ack.now }
+        ensures after { self.new ≡ after_ack self.old ack.now moment result }
+    {
+        match self.judge(ack) {
+            HeardAck::Heard(numbers) => {
+                acknowledge(self.links.as_mut_slice(), ack.held.as_slice());
+                self.tally.take(ack.serial, ack.gap, moment);
+                HeardAck::Heard(numbers)
+            }
+            ignored => ignored,
+        }
+    }
+
+    /// Takes bytes that came, which may be an acknowledgement of this session.
+    pub fn heard(&mut self, bytes: &[u8], moment: u64) -> HeardAck
+        ensures answered { Answered C.coding self.old.session (Stands C.coding) self.old self.new (Hear (came bytes.now) moment result) }
+        ensures refused { (why : IgnoreData) → result ≡ Ignored why → self.new ≡ self.old }
+        ensures session { self.new.session ≡ self.old.session }
+    {
+        match read(bytes) {
+            Ok(Datagram::Ack(ack)) => self.take_ack(&ack, moment),
+            Ok(_) => HeardAck::Ignored(Ignore::Kind),
+            Err(fault) => HeardAck::Ignored(Ignore::Wire(fault)),
+        }
+    }
+
+    /// What decides the jobs of the next picture.
+    #[tactic(auto, using(crate::proofs::Starting::first_fits))]
+    fn plan(&self) -> Plan
+        ensures plan { result ≡ plan_of self.now }
+        ensures first { result.first + 2 < 2 ^ 32 }
+        ensures q { result.q ≤ 127 }
+    {
+        let links = self.links.as_slice();
+        let safe = safe_in(links, self.tip);
+        let is_full = self.tip != 0 && self.tip.saturating_sub(self.floor) + 1 == WINDOW;
+        let onward = onward_of(
+            is_full,
+            lost_in(links, safe, self.tally.heard, self.tip),
+            safe,
+            self.tip,
+        );
+        Plan {
+            first: self.last_job + 1,
+            onward,
+            safe,
+            spared: onward == self.tip && onward != safe,
+            from_tip: onward == self.tip,
+            q: self.q,
+        }
+    }
+
+    /// A job of the next picture, from the state of a number, or from the initial one where that isn't kept.
+    fn job(
+        &self,
+        id: u32,
+        role: JobRole,
+        source: u32,
+        q: u8,
+        picture: &Arc<Picture>,
+    ) -> Result<Job<C>, Memory>
+        requires size { HasSides self.now.session.head.width self.now.session.head.height (arc_value picture.now) }
+        requires q { q ≤ 127 }
+        ensures { IfOk result (λ j. j ≡ work_from C.coding self.now (arc_value picture.now) id role source q) }
+    {
+        let samples = Arc::try_clone(picture)?;
+        let number = self.pictures + 1;
+        keeps_the_law::<C>();
+        match self.store.get(source) {
+            Some((name, state)) => Ok(Job::new(
+                id,
+                number,
+                role,
+                q,
+                Kind::Inter,
+                Arc::try_clone(state)?,
+                name,
+                samples,
+            )),
+            None => Ok(Job::new(
+                id,
+                number,
+                role,
+                q,
+                Kind::Key,
+                Arc::try_clone(&self.initial)?,
+                Name::ZERO,
+                samples,
+            )),
+        }
+    }
+
+    /// The spare job of the next picture, where there is one.
+    fn spare_job(&self, plan: &Plan, picture: &Arc<Picture>) -> Result<Option<Job<C>>, Memory>
+        requires size { HasSides self.now.session.head.width self.now.session.head.height (arc_value picture.now) }
+        requires first { plan.now.first + 2 < 2 ^ 32 }
+        requires q { plan.now.q ≤ 127 }
+        ensures { IfOk result (λ o. o ≡ (if plan.now.spared then Some (work_from C.coding self.now (arc_value picture.now) (plan.now.first + 1) Spare plan.now.safe (coarse_q plan.now)) else None)) }
+    {
+        if !plan.spared {
+            return Ok(None);
+        }
+        let job = self.job(
+            plan.first + 1,
+            JobRole::Spare,
+            plan.safe,
+            plan.coarse_q(),
+            picture,
+        )?;
+        Ok(Some(job))
+    }
+
+    /// The jobs of the next picture, none of them handed out.
+    fn queue(&self, plan: &Plan, picture: &Arc<Picture>) -> Result<Queue<Job<C>>, Memory>
+        requires size { HasSides self.now.session.head.width self.now.session.head.height (arc_value picture.now) }
+        requires first { plan.now.first + 2 < 2 ^ 32 }
+        requires q { plan.now.q ≤ 127 }
+        ensures { IfOk result (λ w. w ≡ queue_of C.coding self.now (arc_value picture.now) plan.now) }
+    {
+        let coarse = self.job(
+            plan.first,
+            JobRole::Coarse,
+            plan.onward,
+            plan.coarse_q(),
+            picture,
+        )?;
+        let spare = self.spare_job(plan, picture)?;
+        let fine = self.job(
+            plan.fine_id(),
+            JobRole::Fine,
+            plan.onward,
+            plan.q.saturating_sub(4),
+            picture,
+        )?;
+        Ok(Queue {
+            coarse: Some(coarse),
+            spare,
+            fine: Some(fine),
+        })
+    }
+
+    /// Starts a picture, where none is open; all memory is taken first, and want of it changes nothing.
+    fn begin(&mut self, picture: &Arc<Picture>, moment: u64) -> Result<u32, Memory>
+        requires size { HasSides self.old.session.head.width self.old.session.head.height (arc_value picture.now) }
+        requires few { self.old.pictures < 1048575 }
+        ensures count { IfOk result (λ n. n ≡ count_of (plan_of self.old)) }
+        ensures started { OnOk result (self.new ≡ after_start C.coding self.old (arc_value picture.now) moment) }
+        ensures refused { OnErr result (self.new ≡ self.old) }
+    {
+        let plan = self.plan();
+        let queue = self.queue(&plan, picture)?;
+        let count = plan.count();
+        grow(&mut self.out, count)?;
+        self.open = Some(plan.seats());
+        self.waiting = queue;
+        self.pictures += 1;
+        self.last_job += count;
+        self.tally.pass(moment);
+        Ok(count)
+    }
+
+    /// Starts a picture of the session's size, whose jobs then wait to be handed out; all memory is taken here.
+    pub fn next_picture(&mut self, picture: Arc<Picture>, moment: u64) -> Next
+        requires size { HasSides self.old.session.head.width self.old.session.head.height (arc_value picture) }
+        ensures answered { Answered C.coding self.old.session (Stands C.coding) self.old self.new (NextPicture (arc_value picture) moment result) }
+        ensures refused { starts result ≡ false → self.new ≡ self.old }
+        ensures session { self.new.session ≡ self.old.session }
+    {
+        if self.open.is_some() {
+            return Next::NotChosen(self.pictures);
+        }
+        if self.pictures >= MOST_PICTURES {
+            return Next::Full;
+        }
+        match self.begin(&picture, moment) {
+            Ok(count) => Next::Started(count),
+            Err(_) => Next::Memory,
+        }
+    }
+}

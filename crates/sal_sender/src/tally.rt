@@ -1,0 +1,68 @@
+//! What is kept of the acknowledgements.
+
+ghost use Rattle.std.specs.Prelude.{◌≡◌, ◌≤◌, [], ◌∷◌, Ok, max};
+ghost use Rattle.sal_wire.specs.declared.datagram.Ack.{Ack};
+ghost use Rattle.sal_wire.specs.Came.{Report as AckCame};
+ghost use Rattle.sal_budget.specs.Budget.{budget_of};
+ghost use Rattle.sal_sender.specs.declared.answers.HeardAck.TheVariants.{Heard};
+ghost use Rattle.sal_sender.specs.Past.{Past, Hear, choices, sent, sent_at_of};
+ghost use Rattle.sal_sender.specs.Acks.{average, flight};
+ghost use Rattle.sal_sender.specs.Tally.{IsTally, tallied};
+
+use sal_budget::{Flight, budget};
+
+/// The greatest serial heard with its gap and its moment, and the machine's moment.
+#[derive(Clone, Copy, Debug)]
+pub struct Tally {
+    pub heard: u32,
+    pub average: u32,
+    pub heard_at: u64,
+    pub moment: u64,
+}
+
+impl Tally {
+    /// Before any call.
+    pub(crate) fn new() -> Tally
+        ensures { IsTally result [] }
+    {
+        Tally {
+            heard: 0,
+            average: 10_000,
+            heard_at: 0,
+            moment: 0,
+        }
+    }
+
+    /// Passes to a moment, where that is a greater one.
+    pub(crate) fn pass(&mut self, moment: u64)
+        ensures { self.new ≡ record self.old { moment = max self.old.moment moment } }
+    {
+        self.moment = self.moment.max(moment);
+    }
+
+    /// Takes an acknowledgement that is answered with the numbers heard.
+    pub(crate) fn take(&mut self, serial: u32, gap: u32, moment: u64)
+        ensures { self.new ≡ tallied serial gap moment self.old }
+    {
+        self.moment = self.moment.max(moment);
+        if self.heard < serial {
+            self.heard = serial;
+            self.average = gap;
+            self.heard_at = self.moment;
+        }
+    }
+
+    /// What may be sent at this moment.
+    pub(crate) fn may_send(&self, least: u32, sent: u32, sent_at: u64, moment: u64) -> u32
+        requires { self.now.heard ≤ sent }
+        ensures { (past : Past) → IsTally self.now past → sent ≡ Rattle.sal_sender.specs.Past.sent past → sent_at ≡ sent_at_of (choices past) → result ≡ budget_of (average past) least (flight past) moment }
+    {
+        let flight = Flight {
+            sent,
+            heard: self.heard,
+            sent_at,
+            heard_at: self.heard_at,
+        };
+        budget(self.average, least, &flight, moment)
+    }
+}
