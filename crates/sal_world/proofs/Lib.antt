@@ -1,0 +1,21 @@
+mod Toy
+mod Runs
+pub mod ListLemmas
+pub mod Framed
+pub mod Numbers
+pub mod Windows
+pub mod Cut
+pub mod Given
+pub mod Whole
+pub mod Growing
+pub mod Sending
+pub mod Hearing
+pub mod HandedOut
+pub mod Ordered
+pub mod FrameOf
+pub mod Receiving
+pub mod Delivering
+pub mod Kept
+pub mod Played
+pub mod Legal
+pub mod FromInvariant

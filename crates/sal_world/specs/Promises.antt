@@ -1,0 +1,117 @@
+-- What holds of the world, whatever is lost, repeated or reordered.
+use Rattle.std.specs.Prelude.{◌≡◌, ℕ, ◌<◌, ◌≤◌, ◌^◌, Bool, List, ◌∷◌, ◌++◌, find, Option, Some, IsSome, Ok, ◌==◌}
+use Rattle.sal_base.specs.declared.picture.Picture.{Picture}
+use Rattle.sal_base.specs.declared.coding.Decoded.{Decoded}
+use Rattle.sal_base.specs.Lists.{Has, Each}
+use Rattle.sal_codec.specs.Coding.{Coding, Made, HasSides}
+use Rattle.sal_sender.specs.declared.choice.Choice.{Choice}
+use Rattle.sal_sender.specs.declared.answers.Chosen.TheVariants.{Sent}
+use Rattle.sal_sender.specs.declared.answers.Reported.TheVariants.{Late}
+use Rattle.sal_sender.specs.declared.answers.HeardAck.{HeardAck}
+use Rattle.sal_sender.specs.declared.answers.HeardAck.TheVariants.{Heard, Ignored}
+use Rattle.sal_sender.specs.declared.answers.Ignore.TheVariants.{Old}
+use Rattle.sal_sender.specs.Past.{Past, Choose, Hear, choices, pictures}
+use Rattle.sal_sender.specs.Past.{Call as SenderCall}
+use Rattle.sal_sender.specs.Chain.{name_in, state_at, made_at, chain, NamesDiffer}
+use Rattle.sal_sender.specs.OneThread.{Session}
+use Rattle.sal_sender.specs.Acks.{acknowledged}
+use Rattle.sal_sender.specs.Answers.{report_answer}
+use Rattle.sal_sender.specs.Machine.{IsHead}
+use Rattle.sal_sender.specs.Promises.{IsWhatOneThreadSends, FitsItsBudget}
+use Rattle.sal_receiver.specs.Past.{Call, Deliver, shown, floor}
+use Rattle.sal_receiver.specs.Held.{held_under}
+use Rattle.sal_receiver.specs.Promises.{ReadyIsServed, AreFit, IsTaken}
+use Rattle.sal_world.specs.World.{Event, Next, Reports, World, sent, happens, after}
+
+-- the numbers of a session are those of their types, and its head is one
+pub record IsSession (session : Session) : Type 0 where
+  pub number : session.number < 2 ^ 32
+  pub head : IsHead session.head
+  pub pictures : session.head.rate.0 < 2 ^ 32
+  pub seconds : session.head.rate.1 < 2 ^ 32
+
+-- a whole picture of the session's size
+abbrev pub HasSize : Session → Picture → Type 0
+HasSize session picture = HasSides session.head.width session.head.height picture
+
+-- each picture that is started has the session's size
+abbrev pub IsOfSize : Session → Event → Type 0
+IsOfSize session (Next picture) = HasSize session picture
+IsOfSize session _ = Unit {0}
+
+-- the choice of this number
+abbrev pub choice_at : List Choice → ℕ → Option Choice
+choice_at chosen n = find (λ c. c.number == n) chosen
+
+-- a delivery is answered that the datagram was taken
+abbrev pub IsTakenIn : {S : Type 0} → Call S → Type 0
+IsTakenIn (Deliver came moment answer) = IsTaken answer
+IsTakenIn _ = Unit {0}
+
+-- an acknowledgement is heard, or is old
+abbrev pub IsHeardOrOld : HeardAck → Type 0
+IsHeardOrOld (Heard numbers) = Unit {0}
+IsHeardOrOld (Ignored Old) = Unit {0}
+IsHeardOrOld (Ignored _) = ⊥
+
+abbrev pub IsHeardOrOldIn : SenderCall → Type 0
+IsHeardOrOldIn (Hear came moment answer) = IsHeardOrOld answer
+IsHeardOrOldIn _ = Unit {0}
+
+-- no datagram is refused, no decoding is unfit or misnamed, and no acknowledgement is ignored but as old
+pub record NothingIsRefused {S : Type 0} (w : World S) : Type 0 where
+  pub down : Each IsTakenIn w.receiver
+  pub decoded : AreFit w.receiver
+  pub up : Each IsHeardOrOldIn w.sender
+
+module _ {S : Type 0} (codec : Coding S) where
+  abbrev pub Names : World S → Type 0
+  Names w = NamesDiffer codec (pictures w.sender) (choices w.sender)
+
+  -- a picture is the reconstruction of a chosen number, and the decoding of its frame from the state of its source
+  pub record IsDecoding (w : World S) (n : ℕ) (picture : Picture) : Type 0 where
+    pub choice : Choice
+    pub chosen : choice_at (choices w.sender) n ≡ Some choice
+    pub made : Made S
+    pub is_made : made_at codec (pictures w.sender) (choices w.sender) n ≡ Some made
+    pub reconstruction : picture ≡ made.recon
+    pub decoded : Decoded S
+    pub decoding : codec.decode (state_at codec w.sender choice.source) made.bytes ≡ Ok decoded
+    pub same_picture : picture ≡ decoded.picture
+
+  -- shown is the decoding
+  abbrev pub ShownIsTheDecoding : World S → Type 0
+  ShownIsTheDecoding w = (n : ℕ) (picture : Picture) → Has (shown w.receiver) (n, picture) → IsDecoding w n picture
+
+  -- where a choice's source was acknowledged, a state of that name is held until a floor above the source was taken
+  abbrev pub AcknowledgedStaysHeld : World S → Type 0
+  AcknowledgedStaysHeld w =
+      (later before : Past) (moment : ℕ) (choice : Choice) (burst : List (List ℕ))
+      → w.sender ≡ later ++ Choose moment (Sent choice burst) ∷ before
+      → Has (acknowledged before) choice.source
+      → floor w.receiver ≤ choice.source
+      → IsSome (held_under codec w.receiver (name_in codec (state_at codec w.sender choice.source)))
+
+module _ {S : Type 0} (codec : Coding S) (session : Session) where
+  -- a report that is late changes neither the chain nor its states nor what is sent
+  abbrev pub LateChangesNothing : World S → Type 0
+  LateChangesNothing w =
+      (job : ℕ) (ran : Bool)
+      → report_answer w.sender job ≡ Late
+      → let v = happens codec session w (Reports job ran) in
+      (chain v.sender ≡ chain w.sender) × ((n : ℕ) → state_at codec v.sender n ≡ state_at codec w.sender n) × (sent v ≡ sent w)
+
+  -- what holds of a world
+  pub record Holds (w : World S) : Type 0 where
+    pub shown_is_the_decoding : ShownIsTheDecoding codec w
+    pub one_thread : IsWhatOneThreadSends codec session w.sender
+    pub budget : FitsItsBudget codec session w.sender
+    pub served : ReadyIsServed codec w.receiver
+    pub stays_held : AcknowledgedStaysHeld codec w
+    pub nothing_refused : NothingIsRefused w
+    pub late : LateChangesNothing w
+
+  -- every interleaving of events keeps the promises, where names differ
+  abbrev pub AllInterleavings : Type 0
+  AllInterleavings =
+      IsSession session → (events : List Event) → Each (IsOfSize session) events → Names codec (after codec session events) → Holds (after codec session events)

@@ -1,0 +1,52 @@
+//! What holds of every world, whatever is lost, repeated or reordered.
+
+ghost use Rattle.std.specs.Prelude.{◌≡◌, List, Some};
+ghost use Rattle.sal_base.specs.declared.picture.Picture.{Picture};
+ghost use Rattle.sal_base.specs.Lists.{Each};
+ghost use Rattle.sal_sender.specs.OneThread.{Session};
+ghost use Rattle.sal_sender.specs.Promises.{IsWhatOneThreadSends, FitsItsBudget};
+ghost use Rattle.sal_world.specs.World.{Event, after};
+ghost use Rattle.sal_world.specs.Promises.{IsSession, HasSize, Names, Holds, AllInterleavings};
+ghost use Rattle.sal_world.specs.Invariant.{Invariant, IsKept, HoldsEverywhere};
+ghost use Rattle.sal_world.specs.declared.script.ScriptLine.{ScriptLine};
+ghost use Rattle.sal_world.specs.Script.{Run, begun, played};
+
+use sal_codec::{Codec, keeps_the_law};
+
+/// After all events sent is what one thread sends that makes the same choices, and each choice fits its budget.
+#[tactic(auto, using(crate::proofs::Legal::one_thread_in, crate::proofs::Legal::budget_in))]
+pub fn sends_in_every_world<C: Codec>()
+    ensures thread { (session : Session) (events : List Event) → IsWhatOneThreadSends C.coding session (after C.coding session events).sender }
+    ensures budget { (session : Session) (events : List Event) → FitsItsBudget C.coding session (after C.coding session events).sender }
+{}
+
+/// Each event keeps the invariant: a picture, a job, a report, a choice, a datagram or an acknowledgement that comes
+/// once more or late, a frame handed out, a decoding, and a moment.
+pub fn each_event_keeps_the_invariant<C: Codec>()
+    ensures kept { (session : Session) → IsKept C.coding session }
+    ensures everywhere { (session : Session) → HoldsEverywhere C.coding session }
+{
+    keeps_the_law::<C>()
+}
+
+/// Where the invariant holds after all events, all promises do.
+pub fn keeps_its_promises<C: Codec>()
+    ensures { (session : Session) (events : List Event) → Invariant C.coding session (after C.coding session events) → Holds C.coding session (after C.coding session events) }
+{}
+
+/// After every list of events all promises hold, where pictures have the session's size and states that differ have
+/// names that differ: shown is the decoding, sent is what one thread sends, each choice fits its budget, a complete
+/// frame whose source is held is shown unless a newer one was, what was acknowledged stays held, nothing is refused,
+/// and a late report changes nothing.
+pub fn keeps_every_promise<C: Codec>()
+    ensures { (session : Session) → AllInterleavings C.coding session }
+{
+    keeps_the_law::<C>()
+}
+
+/// What the lines of a script make of the world keeps all promises.
+pub fn a_script_keeps_every_promise<C: Codec>()
+    ensures { (session : Session) → IsSession session → (pictures : List Picture) → Each (HasSize session) pictures → (lines : List ScriptLine) (run : Run C.State) → played C.coding session lines (Some (begun pictures)) ≡ Some run → Names C.coding run.world → Holds C.coding session run.world }
+{
+    keeps_the_law::<C>()
+}

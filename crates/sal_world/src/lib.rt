@@ -1,0 +1,11 @@
+//! Both ends in one world, in which any datagram may come any number of times, in any order, or never.
+#![tactic(auto)]
+
+mod laws;
+mod script;
+
+pub use laws::{
+    a_script_keeps_every_promise, each_event_keeps_the_invariant, keeps_every_promise,
+    keeps_its_promises, sends_in_every_world,
+};
+pub use script::ScriptLine;
