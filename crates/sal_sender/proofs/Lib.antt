@@ -11,4 +11,9 @@ pub mod ReportedBack
 pub mod Heard
 pub mod Starting
 pub mod Started
+pub mod Near
+pub mod Sent
 pub mod Sized
+pub mod Bursts
+pub mod Picks
+pub mod Choosings

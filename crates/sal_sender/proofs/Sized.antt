@@ -1,5 +1,5 @@
 -- Jobs have the session's size.
-use Rattle.std.proofs.Common.{◌≡◌, ℕ, ◌+◌, ◌-◌, ◌<◌, ◌≤◌, max, arith, Bool, true, false, cond, List, [], ◌∷◌, drop, Some, None, ap, sym, subst}
+use Rattle.std.proofs.Common.{◌≡◌, ℕ, ◌+◌, ◌-◌, ◌<◌, ◌≤◌, max, arith, Bool, true, false, cond, List, [], ◌∷◌, drop, Some, None, ap, sym, ◌∙◌, subst}
 use Rattle.sal_base.specs.Lists.{Each}
 use Rattle.sal_base.specs.declared.picture.Picture.{Picture}
 use Rattle.sal_y4m.specs.declared.head.Head.{Head}
@@ -10,8 +10,9 @@ use Rattle.sal_sender.specs.Seats.{listed, first_in}
 use Rattle.sal_sender.specs.Work.{Work, Ran}
 use Rattle.sal_sender.specs.declared.seat.Open.{Open}
 use Rattle.sal_sender.specs.declared.tally.Tally.{Tally}
-use Rattle.sal_sender.specs.Machine.{Machine, IsSized, IsWell}
-use Rattle.sal_sender.specs.Planned.{count_of, coarse_q, fine_id, work_from, queue_of}
+use Rattle.sal_sender.specs.Machine.{Machine, IsSized, AreSeats, IsWell}
+use Rattle.sal_sender.proofs.Near.{plan_seats}
+use Rattle.sal_sender.specs.Planned.{plan_of, seats_of, count_of, coarse_q, fine_id, work_from, queue_of}
 use Rattle.sal_sender.specs.declared.choice.JobRole.TheVariants.{Coarse, Spare, Fine}
 
 listed_sized : (b : Bool) {S : Type 0} (head : Head) (c p f : Work S) → IsSized head c → IsSized head p → IsSized head f → Each (IsSized head) (listed (record { coarse = Some c; spare = cond b (Some p) None; fine = Some f }))
@@ -38,8 +39,8 @@ count_few true n e = omega arith
 count_few false n e = omega arith
 
 -- what holds of every sender holds after a picture was started
-pub well_begun : {S : Type 0} (codec : Coding S) (inside m : Machine S) (p : Picture) (plan : Plan) (queue : Queue (Work S)) (tally : Tally) (seats : Open (Ran S)) (out : List Bool) (count : ℕ) (moment : ℕ) → IsWell codec inside → inside ≡ m → m.pictures < 1048575 → count ≡ count_of plan → tally ≡ record inside.tally { moment = max inside.tally.moment moment } → queue ≡ queue_of codec m p plan → HasSides m.session.head.width m.session.head.height p → IsWell codec (record inside { tally = tally; seats = Some seats; waiting = queue; out = out; pictures = inside.pictures + 1; last_job = inside.last_job + count })
-well_begun codec inside m p plan queue tally seats out count moment w view few counted told queued sides =
+pub well_begun : {S : Type 0} (codec : Coding S) (inside m : Machine S) (p : Picture) (plan : Plan) (queue : Queue (Work S)) (tally : Tally) (seats : Open (Ran S)) (out : List Bool) (count : ℕ) (moment : ℕ) → IsWell codec inside → inside ≡ m → plan ≡ plan_of m → seats ≡ seats_of plan → m.pictures < 1048575 → count ≡ count_of plan → tally ≡ record inside.tally { moment = max inside.tally.moment moment } → queue ≡ queue_of codec m p plan → HasSides m.session.head.width m.session.head.height p → IsWell codec (record inside { tally = tally; seats = Some seats; waiting = queue; out = out; pictures = inside.pictures + 1; last_job = inside.last_job + count })
+well_begun codec inside m p plan queue tally seats out count moment w view planned placed few counted told queued sides =
     let low : inside.pictures < 1048575 = subst (λ v. v.pictures < 1048575) (sym view) few in
     let three : count ≤ 3 = count_few plan.spared count counted in
     let same : tally.heard ≡ inside.tally.heard = ap (λ t. t.heard) told in
@@ -58,5 +59,8 @@ well_begun codec inside m p plan queue tally seats out count moment w view few c
       shelf = w.shelf;
       above = w.above;
       states = w.states;
+      kept = w.kept;
+      linked = w.linked;
+      seated = subst (λ o. AreSeats inside.floor inside.tip inside.session.head (Some o)) (sym (placed ∙ (ap (λ p. seats_of p) planned ∙ ap (λ v. seats_of (plan_of v)) (sym view)))) (plan_seats codec inside w);
       waiting_sized = subst (λ v. Each (IsSized v.session.head) (listed queue)) (sym view) (queue_sized codec m.session.head m p plan queue queued sides);
     }

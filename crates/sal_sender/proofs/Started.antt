@@ -271,7 +271,7 @@ module _ {S : Type 0} (codec : Coding S) where
         out_are = λ j. flag_more (ltb j (length m.out)) m.out (Rattle.sal_sender.specs.Planned.count_of (plan_of m)) j refl ∙ k.out_are j;
       }
 
-  none_open : (past : Past) (m : Machine S) → Keeps codec m (summary past) → m.seats ≡ None → opened past ≡ None
+  pub none_open : (past : Past) (m : Machine S) → Keeps codec m (summary past) → m.seats ≡ None → opened past ≡ None
   none_open past m k h = go (opened past) refl (sym k.open_is ∙ h)
     where
       go : (o : Option Past) → opened past ≡ o → option_map (open_in codec (summary past)) o ≡ None → opened past ≡ None

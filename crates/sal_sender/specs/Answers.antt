@@ -13,6 +13,8 @@ use Rattle.sal_sender.specs.declared.answers.Next.{Next}
 use Rattle.sal_sender.specs.declared.answers.Next.TheVariants.{Started, NotChosen, Full, Memory}
 use Rattle.sal_sender.specs.declared.answers.Reported.{Reported}
 use Rattle.sal_sender.specs.declared.answers.Reported.TheVariants.{Stranger, Late, Kept}
+use Rattle.sal_sender.specs.declared.answers.Chosen.{Chosen}
+use Rattle.sal_sender.specs.declared.answers.Chosen.TheVariants.{NoPicture, Waiting, Sent, Nothing, Memory as ChosenMemory}
 use Rattle.sal_sender.specs.declared.answers.Ignore.{Ignore}
 use Rattle.sal_sender.specs.declared.answers.Ignore.TheVariants.{Wire, Kind, Session as OtherSession, Serial, Unsent, Name as OtherName, Old}
 use Rattle.sal_sender.specs.declared.answers.HeardAck.{HeardAck}
@@ -113,3 +115,11 @@ heard_answer codec session past (Err fault) = Ignored (Wire fault)
 heard_answer codec session past (Ok (Part e)) = Ignored Kind
 heard_answer codec session past (Ok (End number last)) = Ignored Kind
 heard_answer codec session past (Ok (AckCame ack)) = ack_answer codec session past ack
+
+-- whether a choice closes the picture
+abbrev pub closes : Chosen → Bool
+closes NoPicture = false
+closes (Waiting id) = false
+closes (Sent choice burst) = true
+closes (Nothing budget sizes) = true
+closes ChosenMemory = false

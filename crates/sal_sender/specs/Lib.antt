@@ -15,3 +15,6 @@ pub mod Machine
 pub mod Stands
 pub mod Hearing
 pub mod Planned
+pub mod Cutting
+pub mod Picking
+pub mod Sending

@@ -1,5 +1,5 @@
 -- What a sender keeps.
-use Rattle.std.specs.Prelude.{◌≡◌, ℕ, ◌+◌, ◌*◌, ◌<◌, ◌≤◌, Bool, false, List, Option, None, slice_index_or, IsSome}
+use Rattle.std.specs.Prelude.{◌≡◌, ◌⊎◌, ℕ, ◌+◌, ◌*◌, ◌<◌, ◌≤◌, Bool, false, List, Option, None, Some, slice_index_or, IsSome}
 use Rattle.sal_base.specs.Lists.{Each}
 use Rattle.sal_base.specs.Picture.{AreSides}
 use Rattle.sal_y4m.specs.declared.head.Head.{Head}
@@ -9,6 +9,7 @@ use Rattle.sal_chain.specs.Held.{numbered}
 use Rattle.sal_chain.specs.Shelf.{Shelf}
 use Rattle.sal_sender.specs.declared.link.Link.{Link}
 use Rattle.sal_sender.specs.declared.tally.Tally.{Tally}
+use Rattle.sal_sender.specs.declared.seat.Seat.{Seat}
 use Rattle.sal_sender.specs.declared.seat.Open.{Open}
 use Rattle.sal_sender.specs.declared.seat.Queue.{Queue}
 use Rattle.sal_sender.specs.Chain.{name_in}
@@ -55,6 +56,32 @@ pub record IsOwn {S : Type 0} (codec : Coding S) (head : Head) (k : Kept S) : Ty
 abbrev pub IsSized : {S : Type 0} → Head → Work S → Type 0
 IsSized head work = HasSides head.width head.height work.samples
 
+-- a link's number stands from the floor to the tip
+abbrev pub IsNearLink : ℕ → ℕ → Link → Type 0
+IsNearLink floor tip l = (floor ≤ l.choice.number) × (l.choice.number ≤ tip)
+
+-- a source is the initial state, or stands in a window that isn't full
+abbrev pub IsNearSource : ℕ → ℕ → ℕ → Type 0
+IsNearSource floor tip n = (n ≡ 0) ⊎ (((floor ≤ n) × (n ≤ tip)) × (tip ≤ floor + 14))
+
+abbrev pub IsSizedIn : {S : Type 0} → Head → Option (Ran S) → Type 0
+IsSizedIn head None = Unit {0}
+IsSizedIn head (Some r) = IsSized head r.work
+
+-- a job of the open picture may be chosen next, and its report has the session's size
+pub record IsSeat {S : Type 0} (floor tip : ℕ) (head : Head) (s : Seat (Ran S)) : Type 0 where
+  pub q : s.q ≤ 127
+  pub source : IsNearSource floor tip s.source
+  pub sized : IsSizedIn head s.report
+
+abbrev pub IsSeatIn : {S : Type 0} → ℕ → ℕ → Head → Option (Seat (Ran S)) → Type 0
+IsSeatIn floor tip head None = Unit {0}
+IsSeatIn floor tip head (Some s) = IsSeat floor tip head s
+
+abbrev pub AreSeats : {S : Type 0} → ℕ → ℕ → Head → Option (Open (Ran S)) → Type 0
+AreSeats floor tip head None = Unit {0}
+AreSeats floor tip head (Some o) = IsSeat floor tip head o.coarse × (IsSeatIn floor tip head o.spare × IsSeat floor tip head o.fine)
+
 -- what holds of every sender, also of one that was given another's reports
 pub record IsWell {S : Type 0} (codec : Coding S) (m : Machine S) : Type 0 where
   pub head : IsHead m.session.head
@@ -72,3 +99,6 @@ pub record IsWell {S : Type 0} (codec : Coding S) (m : Machine S) : Type 0 where
   pub above : (n : ℕ) → m.tip < n → numbered n m.shelf.kept ≡ None
   pub states : Each (IsOwn codec m.session.head) m.shelf.kept
   pub waiting_sized : Each (IsSized m.session.head) (listed m.waiting)
+  pub kept : (m.tip ≡ 0) ⊎ (m.floor ≤ m.tip)
+  pub linked : Each (IsNearLink m.floor m.tip) m.links
+  pub seated : AreSeats m.floor m.tip m.session.head m.seats

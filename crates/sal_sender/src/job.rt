@@ -102,6 +102,14 @@ impl<C: Codec> Job<C> {
         self.kind
     }
 
+    /// The name of the state that the picture is encoded from.
+    pub(crate) fn source_name(&self) -> Name
+        ensures named { result.0 ≡ name_in C.coding self.now.source }
+        ensures may { MayEncode C.coding self.now.source self.now.samples self.now.q self.now.kind }
+    {
+        self.source_name
+    }
+
     /// Encodes the picture. This is the only maker of a report.
     pub fn run(self, alloc: Global, codec: &C) -> Report<C>
         ensures { result.work ≡ self }

@@ -3,16 +3,19 @@
 
 mod answers;
 mod choice;
+mod cut;
 mod hearing;
 mod job;
 mod laws;
 mod link;
 mod lists;
 mod outcome;
+mod pick;
 mod plan;
 mod report;
 mod seat;
 mod sender;
+mod taken;
 mod tally;
 
 pub use answers::{Chosen, HeardAck, Ignore, Next, Reported};

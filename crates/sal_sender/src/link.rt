@@ -3,6 +3,7 @@
 ghost use Rattle.std.specs.Prelude.{◌≡◌, ◌==◌, map};
 ghost use Rattle.std.specs.List.{list_any};
 ghost use Rattle.sal_sender.specs.Links.{safe_in, lost_in, overtaken, is_acked_in, with_held};
+ghost use Rattle.sal_sender.specs.Sending.{sent_at_in, pause_in};
 
 use crate::choice::Choice;
 use sal_base::Name;
@@ -86,4 +87,31 @@ pub(crate) fn acknowledge(links: &mut [Link], held: &[(u32, Name)])
     for link in links.iter_mut() {
         *link = with_held(*link, held);
     }
+}
+
+/// The newest choice's moment, 0 before any.
+pub(crate) fn sent_at(links: &[Link]) -> u64
+    ensures { result ≡ sent_at_in links.now }
+{
+    match links.first() {
+        Some(link) => link.choice.moment,
+        None => 0,
+    }
+}
+
+/// The microseconds from the newest choice to this moment, 0 before any, and no more than a u32 counts.
+pub(crate) fn pause(links: &[Link], at: u64) -> u32
+    ensures { result ≡ pause_in links.now at }
+{
+    match links.first() {
+        Some(link) => at.saturating_sub(link.choice.moment).min(4_294_967_295) as u32,
+        None => 0,
+    }
+}
+
+/// Acknowledges all that are named, of all links.
+pub(crate) fn hear(links: &mut Vec<Link>, held: &[(u32, Name)])
+    ensures { links.new.items ≡ map (with_held held.now) links.old.items }
+{
+    acknowledge(links.as_mut_slice(), held);
 }

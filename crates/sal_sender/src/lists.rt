@@ -1,11 +1,13 @@
 //! Lists of bounded length, and a burst of datagrams.
 
-ghost use Rattle.std.specs.Prelude.{◌≡◌, ◌<◌, ◌≤◌, ℕ, List, [], ◌∷◌, ◌++◌, length};
+ghost use Rattle.std.specs.Prelude.{◌≡◌, ◌<◌, ◌≤◌, ℕ, List, [], ◌∷◌, ◌++◌, length, OnOk};
+ghost use Rattle.std.specs.Option.{option_to_list};
 ghost use Rattle.sal_sender.specs.declared.choice.Size.{Size as SizeData};
 
 use crate::choice::Size;
 use arrayvec::ArrayVec;
-use sal_base::Bytes;
+use sal_base::{Bytes, Memory};
+use std::alloc::Global;
 use std::marker::Model;
 
 /// The numbers newly acknowledged.
@@ -59,6 +61,35 @@ impl Model for Sizes {
     ghost view = { λ s. s.items.items };
 }
 
+impl Sizes {
+    /// No sizes.
+    pub(crate) fn new() -> Self
+        ensures { result ≡ [] }
+    {
+        Sizes {
+            items: ArrayVec::new(),
+        }
+    }
+
+    /// The sizes, lent.
+    pub fn as_slice(&self) -> &[Size]
+        ensures value { result.now ≡ self.now }
+        ensures fits { length result.now ≤ 2 }
+    {
+        self.items.as_slice()
+    }
+
+    /// Adds a size at the end, where there is one and room for it.
+    pub(crate) fn add(&mut self, size: Option<Size>)
+        requires { length self.old < 2 }
+        ensures { self.new ≡ self.old ++ option_to_list size }
+    {
+        if let Some(size) = size {
+            self.items.push(size);
+        }
+    }
+}
+
 /// The datagrams of a choice.
 #[derive(Drop)]
 pub struct Burst {
@@ -69,4 +100,37 @@ impl Model for Burst {
     ghost Value = { List (List ℕ) };
 
     ghost view = { λ b. b.items.items };
+}
+
+impl Burst {
+    /// No datagrams.
+    pub(crate) fn new(alloc: Global) -> Self
+        ensures { result ≡ [] }
+    {
+        Burst {
+            items: Vec::new(alloc),
+        }
+    }
+
+    /// The datagrams, lent.
+    pub fn as_slice(&self) -> &[Bytes]
+        ensures { result.now ≡ self.now }
+    {
+        self.items.as_slice()
+    }
+
+    /// The datagrams as a `Vec`.
+    pub fn into_vec(self) -> Vec<Bytes>
+        ensures { result.items ≡ self }
+    {
+        self.items
+    }
+
+    /// Adds a datagram at the end.
+    pub(crate) fn push(&mut self, datagram: Bytes) -> Result<(), Memory>
+        ensures { OnOk result (self.new ≡ self.old ++ datagram ∷ []) }
+    {
+        self.items.push(datagram)?;
+        Ok(())
+    }
 }

@@ -1,6 +1,6 @@
 //! The sender.
 
-ghost use Rattle.std.specs.Prelude.{◌≡◌, ◌≤◌, ◌<◌, ◌+◌, ◌^◌, [], ◌∷◌, ◌++◌, replicate, false, is_ok, map, IfOk, OnOk, OnErr, IfSome, None, Some, slice_set, if◌then◌else◌};
+ghost use Rattle.std.specs.Prelude.{◌≡◌, ◌≤◌, ◌<◌, ◌+◌, ◌^◌, [], ◌∷◌, ◌++◌, replicate, length, true, false, is_ok, map, IfOk, OnOk, OnErr, IfSome, None, Some, slice_set, if◌then◌else◌};
 ghost use Rattle.std.specs.Option.{option_map};
 ghost use Rattle.sal_base.specs.Picture.{AreSides};
 ghost use Rattle.sal_codec.specs.Coding.{HasSides};
@@ -18,17 +18,27 @@ ghost use Rattle.sal_wire.specs.Reading.{came};
 ghost use Rattle.sal_sender.specs.Hearing.{judged, after_ack};
 ghost use Rattle.std.specs.Arc.{arc_value};
 ghost use Rattle.sal_sender.specs.Planned.{plan_of, count_of, coarse_q, work_from, queue_of, after_start};
-ghost use Rattle.sal_sender.specs.Machine.{Machine, IsHead, IsSized, flag};
+ghost use Rattle.sal_sender.specs.Machine.{Machine, IsHead, IsOwn, IsSeat, IsSized, flag};
 ghost use Rattle.sal_sender.specs.Stands.{Stands, IsOwnWork};
+ghost use Rattle.sal_budget.specs.Budget.{least_of};
+ghost use Rattle.sal_sender.specs.Jobs.{kind_of};
+ghost use Rattle.sal_sender.specs.Sending.{lost_of, budget_in, floor_in, choice_in, pause_in, with_choice, IsNext, IsTaken, after_choice, after_nothing};
+ghost use Rattle.sal_sender.specs.Picking.{has_fit, size_in};
+ghost use Rattle.sal_sender.specs.Answers.{closes};
+ghost use Rattle.sal_sender.specs.declared.answers.Chosen.TheVariants.{Sent};
 
-use crate::answers::{HeardAck, Ignore, Next, Reported};
-use crate::choice::JobRole;
+use crate::answers::{Chosen, HeardAck, Ignore, Next, Reported};
+use crate::choice::{Choice, JobRole};
+use crate::cut::{Cut, burst};
 use crate::hearing::{first_wrong, newly_named};
 use crate::job::Job;
-use crate::link::{Link, acknowledge, lost_in, safe_in};
+use crate::link::{Link, hear, lost_in, pause, safe_in, sent_at};
+use crate::outcome::Outcome;
+use crate::pick::{found, sizes};
 use crate::plan::Plan;
 use crate::report::Report;
-use crate::seat::{Open, Queue, keep};
+use crate::seat::{Open, Queue, Seat, keep};
+use crate::taken::{Taken, longer};
 use crate::tally::Tally;
 use sal_base::{Kind, Memory, Name, Picture};
 use sal_chain::Store;
@@ -42,6 +52,7 @@ use std::sync::Arc;
 /// A sender of one session: what it chose, what of that is known to be held, and the open picture.
 #[derive(Drop)]
 pub struct Sender<C: Codec> {
+    alloc: Global,
     session: u32,
     head: Head,
     initial: Arc<C::State>,
@@ -90,6 +101,29 @@ fn onward_of(is_full: bool, is_lost: bool, safe: u32, tip: u32) -> u32
     } else {
         tip
     }
+}
+
+/// How a picture is encoded from the state of this number.
+fn kind_of(source: u32) -> Kind
+    ensures { result ≡ kind_of source }
+{
+    if source == 0 { Kind::Key } else { Kind::Inter }
+}
+
+/// A name has sixteen bytes.
+fn has_sixteen(name: Name)
+    ensures { length name.0 ≡ 16 }
+{
+    let _bytes = name.0;
+}
+
+/// The least window of pictures of this size.
+fn least(width: u16, height: u16) -> u32
+    ensures { result ≡ least_of width height }
+{
+    let columns = (u32::from(width) + 15) / 16;
+    let rows = (u32::from(height) + 15) / 16;
+    16 + columns * rows / 16
 }
 
 /// Says of a job whether it is out.
@@ -143,6 +177,7 @@ impl<C: Codec> Sender<C> {
         let store = Store::new(alloc)?;
         let out = vec![in alloc; false; 1]?;
         Ok(Sender {
+            alloc,
             session,
             head,
             initial,
@@ -176,6 +211,7 @@ impl<C: Codec> Sender<C> {
     }
 
     /// Takes the report of a job that this sender handed out.
+    #[tactic(auto, using(crate::proofs::Near::seats_reported))]
     pub fn report(&mut self, report: Report<C>) -> Reported
         requires size { HasSides self.old.session.head.width self.old.session.head.height report.work.samples }
         ensures answer { (past : Past) → Stands C.coding self.old past → result ≡ report_answer past report.work.id }
@@ -214,13 +250,14 @@ impl<C: Codec> Sender<C> {
     }
 
     /// Takes an acknowledgement.
+    #[tactic(auto, using(crate::proofs::Near::linked_held))]
     fn take_ack(&mut self, ack: &Ack, moment: u64) -> HeardAck
         ensures answer { result ≡ judged self.old ack.now }
         ensures after { self.new ≡ after_ack self.old ack.now moment result }
     {
         match self.judge(ack) {
             HeardAck::Heard(numbers) => {
-                acknowledge(self.links.as_mut_slice(), ack.held.as_slice());
+                hear(&mut self.links, ack.held.as_slice());
                 self.tally.take(ack.serial, ack.gap, moment);
                 HeardAck::Heard(numbers)
             }
@@ -393,5 +430,120 @@ impl<C: Codec> Sender<C> {
             Ok(count) => Next::Started(count),
             Err(_) => Next::Memory,
         }
+    }
+    /// Whether the chain of the tip is lost.
+    fn is_lost(&self) -> bool
+        ensures { result ≡ lost_of self.now }
+    {
+        let links = self.links.as_slice();
+        lost_in(links, safe_in(links, self.tip), self.tally.heard, self.tip)
+    }
+
+    /// What may be sent at this moment.
+    fn budget(&self, at: u64) -> u32
+        ensures { result ≡ budget_in self.now at }
+    {
+        let sent_at = sent_at(self.links.as_slice());
+        self.tally.may_send(
+            least(self.head.width, self.head.height),
+            self.sent,
+            sent_at,
+            at,
+        )
+    }
+
+    /// The floor that a choice sets.
+    fn floor_after(&self, source: u32) -> u32
+        ensures { result ≡ floor_in self.now source }
+    {
+        if source == 0 {
+            return self.tip + 1;
+        }
+        let safe = safe_in(self.links.as_slice(), self.tip);
+        self.floor.max(safe.min(source))
+    }
+
+    /// What is chosen where the report of this job is taken.
+    fn choice(&self, seat: &Seat<Report<C>>, count: u32, at: u64) -> Choice
+        ensures { result ≡ choice_in self.now seat.now count at }
+    {
+        Choice {
+            number: self.tip + 1,
+            picture: self.pictures,
+            source: seat.source,
+            job: seat.id,
+            q: seat.q,
+            kind: kind_of(seat.source),
+            floor: self.floor_after(seat.source),
+            count,
+            first_serial: self.sent + 1,
+            moment: at,
+        }
+    }
+    /// Takes the frame that the report of a job has, which fits; all memory is taken here.
+    fn prepare(&self, seat: &Seat<Report<C>>, at: u64) -> Result<Taken<Arc<C::State>>, Memory>
+        requires started { self.now.tip < self.now.pictures }
+        requires seat { IsSeat self.now.floor self.now.tip self.now.session.head seat.now }
+        requires fits { has_fit 4096 (size_in C.coding seat.now) ≡ true }
+        ensures { IfOk result (λ t. IsTaken C.coding self.now seat.now at t) }
+    {
+        let Some(report) = &seat.report else {
+            unreachable!()
+        };
+        let (target, outcome) = report.named_outcome();
+        let Outcome::Frame(bytes, state, _) = outcome else {
+            unreachable!()
+        };
+        keeps_the_law::<C>();
+        let source = report.source_name();
+        has_sixteen(source);
+        has_sixteen(target);
+        let choice = self.choice(seat, report.count(), at);
+        let cut = Cut {
+            session: self.session,
+            head: self.head,
+            choice,
+            source,
+            target,
+            pause: pause(self.links.as_slice(), at),
+            bytes: bytes.as_slice(),
+        };
+        Ok(Taken {
+            choice,
+            name: target,
+            state: Arc::try_clone(state)?,
+            links: longer(self.alloc, self.links.as_slice(), choice)?,
+            burst: burst(self.alloc, &cut)?,
+        })
+    }
+
+    /// Keeps what was taken, and closes the picture.
+    fn send(&mut self, taken: Taken<Arc<C::State>>) -> Chosen
+        requires next { IsNext self.old taken.choice }
+        requires own { IsOwn C.coding self.old.session.head (record { number = taken.choice.number; name = taken.name; state = arc_value taken.state }) }
+        requires links { taken.links.items ≡ with_choice self.old.links taken.choice }
+        ensures sent { result ≡ Sent taken.choice taken.burst }
+        ensures after { self.new ≡ after_choice self.old taken.choice taken.name (arc_value taken.state) }
+    {
+        let choice = taken.choice;
+        self.store.raise_floor(choice.floor);
+        self.store.add(choice.number, taken.name, taken.state);
+        self.links = taken.links;
+        self.tally.pass(choice.moment);
+        self.open = None;
+        self.tip = choice.number;
+        self.floor = choice.floor;
+        self.sent += choice.count;
+        self.q = choice.q;
+        Chosen::Sent(choice, taken.burst)
+    }
+
+    /// Closes a picture for which nothing fits.
+    fn close(&mut self, moment: u64)
+        ensures { self.new ≡ after_nothing self.old moment }
+    {
+        self.tally.pass(moment);
+        self.open = None;
+        self.q = (self.q + 8).min(127);
     }
 }

@@ -55,7 +55,8 @@ impl Tally {
     /// What may be sent at this moment.
     pub(crate) fn may_send(&self, least: u32, sent: u32, sent_at: u64, moment: u64) -> u32
         requires { self.now.heard ≤ sent }
-        ensures { (past : Past) → IsTally self.now past → sent ≡ Rattle.sal_sender.specs.Past.sent past → sent_at ≡ sent_at_of (choices past) → result ≡ budget_of (average past) least (flight past) moment }
+        ensures value { result ≡ budget_of self.now.average least (record { sent = sent; heard = self.now.heard; sent_at = sent_at; heard_at = self.now.heard_at }) moment }
+        ensures past { (past : Past) → IsTally self.now past → sent ≡ Rattle.sal_sender.specs.Past.sent past → sent_at ≡ sent_at_of (choices past) → result ≡ budget_of (average past) least (flight past) moment }
     {
         let flight = Flight {
             sent,
