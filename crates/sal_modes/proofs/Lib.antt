@@ -1,4 +1,5 @@
 mod Examples
+pub mod IntraLemmas
 mod ModeExamples
 pub mod NearLemmas
 mod VectorExamples

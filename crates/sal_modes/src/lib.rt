@@ -2,7 +2,9 @@
 #![tactic(auto)]
 
 mod around;
+mod intra;
 mod near;
+mod neighbours;
 
 pub use around::{Bias, Bounds, Near};
 pub use near::near_vectors;
