@@ -3,6 +3,7 @@ use Rattle.std.specs.Prelude.{ℕ, ◌+◌, ◌*◌, ◌-◌, ℤ, pos, neg_ℤ,
 use Rattle.std.specs.Int.{int_min, int_max}
 use Rattle.std.specs.Ordering.{int_eq}
 use Rattle.sal_base.specs.declared.kinds.Vector.{Vector}
+use Rattle.sal_macroblock.specs.Sizes.{Within}
 use Rattle.sal_macroblock.specs.Macroblocks.{vector}
 use Rattle.sal_modes.specs.declared.around.Bounds.{Bounds}
 
@@ -26,3 +27,10 @@ in_bounds b v = vector (between b.least.row b.greatest.row v.row) (between b.lea
 abbrev pub bounds_of : ℕ → ℕ → ℕ → ℕ → Bounds
 bounds_of columns rows column row =
     record { least = vector (neg_ℤ (pos (64 * (row + 1)))) (neg_ℤ (pos (64 * (column + 1)))); greatest = vector (pos (64 * (rows - row))) (pos (64 * (columns - column))) }
+
+-- bounds of a picture of at most 80 by 45 macroblocks: 80 * 64 quarter samples
+pub record AreNear (b : Bounds) : Type 0 where
+  pub least_row : Within 5120 b.least.row
+  pub least_column : Within 5120 b.least.column
+  pub greatest_row : Within 5120 b.greatest.row
+  pub greatest_column : Within 5120 b.greatest.column

@@ -5,6 +5,8 @@ mod around;
 mod intra;
 mod near;
 mod neighbours;
+mod split;
+mod vectors;
 
 pub use around::{Bias, Bounds, Near};
 pub use near::near_vectors;
