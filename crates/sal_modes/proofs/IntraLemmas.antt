@@ -1,5 +1,5 @@
 -- The modes of an intra macroblock, step by step, by a decoder's numbers.
-use Rattle.std.proofs.Common.{◌≡◌, ℕ, suc, ◌+◌, ◌-◌, ◌≤◌, ◌<◌, ◌∙◌, List, [], ◌∷◌, ◌++◌, Bool, false, if◌then◌else◌, length, replicate, set, take, refl, sym, ap, arith}
+use Rattle.std.proofs.Common.{◌≡◌, ℕ, suc, ◌+◌, ◌-◌, ◌≤◌, ◌<◌, ◌∙◌, List, [], ◌∷◌, ◌++◌, Bool, false, if◌then◌else◌, length, replicate, set, take, refl, sym, ap, arith, zero, true}
 use Rattle.std.proofs.lemmas.List.{take_more_set, take_all}
 use Rattle.sal_base.specs.declared.kinds.YMode.{YMode}
 use Rattle.sal_base.specs.declared.kinds.YMode.TheVariants.{DC, V, H, TM, B, NEAREST, NEAR, ZERO, NEW, SPLIT}
@@ -14,6 +14,7 @@ use Rattle.sal_macroblock.specs.declared.mode.RefKind.TheVariants.{Intra}
 use Rattle.sal_macroblock.specs.declared.mode.MbMode.{MbMode}
 use Rattle.sal_macroblock.specs.Macroblocks.{is_b, implied, zero_vector}
 use Rattle.sal_modes.specs.Around.{Around}
+use Rattle.sal_modes.specs.Modes.{is_intra_mode, is_whole_mode, HasFittingModes}
 use Rattle.sal_modes.specs.IntraModes.{whole_mode, sub_mode, sub_modes, sub_probabilities, y_mode, chroma_mode, intra_mode}
 
 -- what is read of one leaf, as the definition names the tree and the probabilities
@@ -74,3 +75,23 @@ intra_read key probs a l m y chroma subs r r1 r2 r3 hy ey hs hc ec =
     ap (λ (w : YMode). run (if is_b w then sub_modes key a 16 [] else Done (replicate 16 (implied w))) r1) (sym ey) ∙ hs in
     run_on (y_mode key probs) _ r l r1 hy ∙ (run_on _ _ r1 subs r2 hs' ∙ (run_on (chroma_mode key probs) _ r2 m r3 hc ∙ (run_done _ r3
     ∙ (ap (λ (w : YMode). let x : MbMode × Reading = (intra_of w subs (whole_mode m), r3) in x) (sym ey) ∙ ap (λ (w : YMode). let x : MbMode × Reading = (intra_of y subs w, r3) in x) (sym ec)))))
+
+-- what the leaves of the Y and chroma trees stand for are intra modes, and the first four are whole
+pub leaf_intra : (l : ℕ) → is_intra_mode (whole_mode l) ≡ true
+leaf_intra zero = refl
+leaf_intra (suc zero) = refl
+leaf_intra (suc (suc zero)) = refl
+leaf_intra (suc (suc (suc zero))) = refl
+leaf_intra (suc (suc (suc (suc zero)))) = refl
+leaf_intra (suc (suc (suc (suc (suc l))))) = refl
+
+pub leaf_whole : (l : ℕ) → l < 4 → is_whole_mode (whole_mode l) ≡ true
+leaf_whole zero lt = refl
+leaf_whole (suc zero) lt = refl
+leaf_whole (suc (suc zero)) lt = refl
+leaf_whole (suc (suc (suc zero))) lt = refl
+leaf_whole (suc (suc (suc (suc l)))) lt = absurd (omega arith)
+
+-- the modes of an intra macroblock fit
+pub intra_fits : (l m : ℕ) (y chroma : YMode) (subs : List SubMode) → y ≡ whole_mode l → chroma ≡ whole_mode m → m < 4 → HasFittingModes (intra_of y subs chroma)
+intra_fits l m y chroma subs ey ec lt = record { segment = omega arith; luma = ap is_intra_mode ey ∙ leaf_intra l; chroma = ap is_whole_mode ec ∙ leaf_whole m lt }

@@ -1,4 +1,6 @@
+pub mod CountLemmas
 mod Examples
+pub mod InterLemmas
 pub mod IntraLemmas
 mod ModeExamples
 pub mod NearLemmas

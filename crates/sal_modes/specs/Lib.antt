@@ -3,5 +3,6 @@ pub mod IntraModes
 pub mod Modes
 pub mod Near
 pub mod ReadVectors
+pub mod Rows
 pub mod SplitVectors
 pub mod Vectors

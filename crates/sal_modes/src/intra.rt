@@ -4,6 +4,7 @@ ghost use Rattle.std.specs.Prelude.{◌≡◌, ◌<◌, ◌*◌, [], length, rep
 ghost use Rattle.std.specs.Prelude.{if◌then◌else◌, take};
 ghost use Rattle.sal_bool.specs.Syntax.{run, Done};
 ghost use Rattle.sal_macroblock.specs.Macroblocks.{is_b, implied};
+ghost use Rattle.sal_modes.specs.Modes.{HasFittingModes};
 ghost use Rattle.sal_modes.specs.IntraModes.{whole_mode, sub_mode, sub_number, sub_row, sub_probabilities, sub_modes, y_mode, chroma_mode, intra_mode};
 
 use crate::neighbours::Neighbours;
@@ -167,6 +168,7 @@ pub(crate) fn read_intra(
     around: &Neighbours<'_>,
 ) -> MbMode
     ensures reads { run (intra_mode key probs.now around.now) decoder.old ≡ (result, decoder.new) }
+    ensures modes { HasFittingModes result }
 {
     let y = whole_mode(read_y(decoder, key, probs));
     let sub = subs_of(decoder, key, around, y);

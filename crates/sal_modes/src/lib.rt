@@ -2,14 +2,19 @@
 #![tactic(auto)]
 
 mod around;
+mod inter;
 mod intra;
 mod near;
 mod neighbours;
+mod read;
+mod row;
 mod split;
 mod vectors;
 
 pub use around::{Bias, Bounds, Near};
 pub use near::near_vectors;
+pub use read::read_mb;
+pub use row::Row;
 pub use sal_macroblock::{MbMode, RefKind};
 
 #[cfg(test)]
