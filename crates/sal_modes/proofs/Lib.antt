@@ -4,6 +4,7 @@ pub mod InterLemmas
 pub mod IntraLemmas
 mod ModeExamples
 pub mod NearLemmas
+pub mod Raster
 pub mod SplitLemmas
 mod VectorExamples
 pub mod VectorLemmas
