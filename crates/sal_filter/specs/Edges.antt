@@ -1,6 +1,8 @@
 -- The filters of one place of an edge, on the four samples before it and the four after it (RFC 6386, 15.2 and 15.3).
 use Rattle.std.specs.Prelude.{ℕ, ◌+◌, ◌*◌, ◌/◌, ℤ, pos, neg_ℤ, ◌+ℤ◌, ◌-ℤ◌, ◌*ℤ◌, Bool, ◌&&◌, ◌||◌, if◌then◌else◌, nat_le, nat_lt, unsigned_abs, ◌≤ℤ◌}
 use Rattle.sal_filter.specs.declared.across.Across.{Across}
+use Rattle.sal_filter.specs.declared.edge.Sort.{Sort}
+use Rattle.sal_filter.specs.declared.edge.Sort.TheVariants.{Simple, Inner, Outer}
 use Rattle.sal_macroblock.specs.Sizes.{Within}
 use Rattle.std.specs.Int.{int_min, int_max, int_shr}
 
@@ -15,6 +17,20 @@ pub record AreBytes (a : Across) : Type 0 where
   pub q2 : Within 128 a.q2
   pub q3 : Within 128 a.q3
 
+-- a sample less 128
+abbrev pub IsSigned : ℤ → Type 0
+IsSigned x = (neg_ℤ (pos 128) ≤ℤ x) × (x ≤ℤ pos 127)
+
+pub record AreSigned (a : Across) : Type 0 where
+  pub p3 : IsSigned a.p3
+  pub p2 : IsSigned a.p2
+  pub p1 : IsSigned a.p1
+  pub p0 : IsSigned a.p0
+  pub q0 : IsSigned a.q0
+  pub q1 : IsSigned a.q1
+  pub q2 : IsSigned a.q2
+  pub q3 : IsSigned a.q3
+
 -- cut off to a signed byte
 abbrev pub s : ℤ → ℤ
 s x = int_min (pos 127) (int_max (neg_ℤ (pos 128)) x)
@@ -28,10 +44,11 @@ abbrev pub is_near : ℕ → Across → Bool
 is_near limit a = nat_le (2 * distance a.p0 a.q0 + distance a.p1 a.q1 / 2) limit
 
 -- and, but for the simple filter, neighbours on each side differ little
+abbrev pub is_even : ℕ → ℤ → ℤ → ℤ → ℤ → Bool
+is_even limit x3 x2 x1 x0 = nat_le (distance x3 x2) limit && nat_le (distance x2 x1) limit && nat_le (distance x1 x0) limit
+
 abbrev pub is_smooth : ℕ → Across → Bool
-is_smooth limit a =
-    nat_le (distance a.p3 a.p2) limit && nat_le (distance a.p2 a.p1) limit && nat_le (distance a.p1 a.p0) limit
-    && nat_le (distance a.q3 a.q2) limit && nat_le (distance a.q2 a.q1) limit && nat_le (distance a.q1 a.q0) limit
+is_smooth limit a = is_even limit a.p3 a.p2 a.p1 a.p0 && is_even limit a.q3 a.q2 a.q1 a.q0
 
 -- high variance next to the edge
 abbrev pub is_steep : ℕ → Across → Bool
@@ -87,12 +104,6 @@ outer steep a =
       q2 = s (a.q2 -ℤ part 9 w);
       p2 = s (a.p2 +ℤ part 9 w);
     }
-
--- the three filters
-pub data Sort : Type 0 where
-  Simple : Sort
-  Inner : Sort
-  Outer : Sort
 
 -- one place, by the limits of its macroblock
 unfoldable pub place_filtered : Sort → ℕ → ℕ → ℕ → Across → Across

@@ -4,9 +4,12 @@ use Rattle.sal_base.specs.declared.picture.Plane.{Plane}
 use Rattle.sal_base.specs.declared.picture.Planes.{Planes}
 use Rattle.sal_filter.specs.declared.head.FilterHead.{FilterHead}
 use Rattle.sal_filter.specs.declared.head.MbInfo.{MbInfo}
-use Rattle.sal_filter.specs.Limits.{Limits, level_of, limits_of}
+use Rattle.sal_filter.specs.declared.limits.Limits.{Limits}
+use Rattle.sal_filter.specs.Limits.{level_of, limits_of}
 use Rattle.sal_filter.specs.declared.across.Across.{Across}
-use Rattle.sal_filter.specs.Edges.{Sort, Simple, Inner, Outer, place_filtered}
+use Rattle.sal_filter.specs.declared.edge.Edge.{Edge}
+use Rattle.sal_filter.specs.declared.edge.Sort.TheVariants.{Simple, Inner, Outer}
+use Rattle.sal_filter.specs.Edges.{place_filtered}
 
 -- a sample less 128, and back
 abbrev pub less_128 : List ℕ → ℕ → ℤ
@@ -35,13 +38,6 @@ across_put at step a xs =
     slice_set (slice_set (slice_set (slice_set (slice_set (slice_set xs
     (at - 3 * step) (plus_128 a.p2)) (at - 2 * step) (plus_128 a.p1)) (at - step) (plus_128 a.p0))
     at (plus_128 a.q0)) (at + step) (plus_128 a.q1)) (at + 2 * step) (plus_128 a.q2)
-
--- how an edge is filtered
-pub record Edge : Type 0 where
-  pub sort : Sort
-  pub limit : ℕ
-  pub interior : ℕ
-  pub threshold : ℕ
 
 -- one place of an edge
 unfoldable pub place_put : Edge → ℕ → ℕ → List ℕ → List ℕ
@@ -85,16 +81,16 @@ mb_filtered is_simple l within column row p =
     let top = on (nat_lt 0 row) (on_planes is_simple (horizontal o 16 x y 0) (horizontal o 8 (8 * column) (8 * row) 0)) upright in
     on within (on_planes is_simple (λ q. horizontal i 16 x y 12 (horizontal i 16 x y 8 (horizontal i 16 x y 4 q))) (horizontal i 8 (8 * column) (8 * row) 4)) top
 
--- the k-th macroblock; none of its edges where its level is 0
+-- the macroblock at this column and row; none of its edges where its level is 0
 abbrev pub info_filtered : FilterHead → ℕ → ℕ → MbInfo → Planes → Planes
-info_filtered h columns k m p =
+info_filtered h column row m p =
     if level_of h m.mode == 0 then p
-    else mb_filtered h.simple (limits_of h.key h.sharpness (level_of h m.mode)) m.inner (k % columns) (k / columns) p
+    else mb_filtered h.simple (limits_of h.key h.sharpness (level_of h m.mode)) m.inner column row p
 
--- the macroblocks from the k-th on
+-- the macroblocks from the k-th on, in raster order
 unfoldable pub all_filtered : FilterHead → ℕ → ℕ → List MbInfo → Planes → Planes
 all_filtered h columns k [] p = p
-all_filtered h columns k (m ∷ ms) p = all_filtered h columns (k + 1) ms (info_filtered h columns k m p)
+all_filtered h columns k (m ∷ ms) p = all_filtered h columns (k + 1) ms (info_filtered h (k % columns) (k / columns) m p)
 
 -- a picture of whole macroblocks; nothing where the header's level is 0
 unfoldable pub filtered : FilterHead → List MbInfo → Planes → Planes

@@ -6,6 +6,7 @@ use Rattle.sal_base.specs.declared.kinds.YMode.{YMode}
 use Rattle.sal_base.specs.declared.kinds.YMode.TheVariants.{B, NEAREST, NEAR, ZERO, NEW, SPLIT}
 use Rattle.sal_macroblock.specs.declared.mode.MbMode.{MbMode}
 use Rattle.sal_filter.specs.declared.head.FilterHead.{FilterHead}
+use Rattle.sal_filter.specs.declared.limits.Limits.{Limits}
 
 -- cut off at 0 and at 63
 abbrev pub level_in : ℤ → ℕ
@@ -57,12 +58,6 @@ threshold_of key level =
     if nat_le 40 level then (if key then 2 else 3)
     else (if nat_le 20 level then (if key then 1 else 2)
     else (if nat_le 15 level then 1 else 0))
-
-pub record Limits : Type 0 where
-  pub outer : ℕ
-  pub inner : ℕ
-  pub interior : ℕ
-  pub threshold : ℕ
 
 -- of a level above 0: outer for edges between macroblocks, inner for those within
 unfoldable pub limits_of : Bool → ℕ → ℕ → Limits

@@ -2,7 +2,13 @@
 #![tactic(auto)]
 
 mod across;
+mod block;
+mod edge;
 mod head;
+mod limits;
+mod picture;
 
 pub use across::{Across, inner, outer, simple};
 pub use head::{FilterHead, MbInfo};
+pub use limits::Limits;
+pub use picture::filter_picture;

@@ -1,4 +1,4 @@
-use Rattle.std.proofs.Common.{◌≡◌, ◌∙◌, ap, refl, ℤ, ◌-ℤ◌, sym}
+use Rattle.std.proofs.Common.{◌≡◌, ◌∙◌, ap, refl, ℤ, ◌-ℤ◌}
 use Rattle.sal_filter.specs.declared.across.Across.{Across}
 use Rattle.sal_filter.specs.Edges.{s, step, simple, common}
 use Rattle.sal_filter.proofs.Signed.{held, back_to, step_to}

@@ -1,0 +1,136 @@
+-- One place of an edge and many.
+use Rattle.std.proofs.Common.{◌≡◌, ◌∙◌, ap, refl, sym, arith, ℕ, zero, suc, ◌+◌, ◌*◌, ◌-◌, Bool, true, false, ◌&&◌, cond, List, length, add-one, ℤ, pos, ◌+ℤ◌, ◌-ℤ◌, slice_index, slice_set}
+use Rattle.std.proofs.lemmas.Int.{ints, clamps}
+use Rattle.std.proofs.lemmas.List.{set-get_or, length-set}
+use Rattle.sal_filter.specs.declared.across.Across.{Across}
+use Rattle.sal_filter.specs.declared.edge.Edge.{Edge}
+use Rattle.sal_filter.specs.declared.edge.Sort.{Sort}
+use Rattle.sal_filter.specs.declared.edge.Sort.TheVariants.{Simple, Inner, Outer}
+use Rattle.sal_filter.specs.Edges.{AreBytes, AreSigned, IsSigned, s, is_near, is_smooth, is_steep, place_filtered, simple, inner, outer, step, inner_step, lost, gained, half_lost, part}
+use Rattle.sal_filter.specs.Filtered.{less_128, plus_128, across, across_put, place_put, edge_filtered}
+
+pub bytes_of : (a : Across) → AreSigned a → AreBytes a
+bytes_of a h = record {
+  p3 = (omega (arith, ints, h.p3), omega (arith, ints, h.p3));
+  p2 = (omega (arith, ints, h.p2), omega (arith, ints, h.p2));
+  p1 = (omega (arith, ints, h.p1), omega (arith, ints, h.p1));
+  p0 = (omega (arith, ints, h.p0), omega (arith, ints, h.p0));
+  q0 = (omega (arith, ints, h.q0), omega (arith, ints, h.q0));
+  q1 = (omega (arith, ints, h.q1), omega (arith, ints, h.q1));
+  q2 = (omega (arith, ints, h.q2), omega (arith, ints, h.q2));
+  q3 = (omega (arith, ints, h.q3), omega (arith, ints, h.q3));
+}
+
+cut_signed : (x : ℤ) → IsSigned (s x)
+cut_signed x = (omega (arith, ints, clamps), omega (arith, ints, clamps))
+
+pub simple_signed : (a : Across) → AreSigned a → AreSigned (simple a)
+unfolding simple
+simple_signed a h =
+    let w = step (s (a.p1 -ℤ a.q1)) a in
+    record { p3 = h.p3; p2 = h.p2; p1 = h.p1; p0 = cut_signed (a.p0 +ℤ gained w); q0 = cut_signed (a.q0 -ℤ lost w); q1 = h.q1; q2 = h.q2; q3 = h.q3 }
+
+pub inner_signed : (steep : Bool) (a : Across) → AreSigned a → AreSigned (inner steep a)
+unfolding inner
+inner_signed true a h =
+    let w = inner_step true a in
+    record { p3 = h.p3; p2 = h.p2; p1 = h.p1; p0 = cut_signed (a.p0 +ℤ gained w); q0 = cut_signed (a.q0 -ℤ lost w); q1 = h.q1; q2 = h.q2; q3 = h.q3 }
+inner_signed false a h =
+    let w = inner_step false a in
+    record { p3 = h.p3; p2 = h.p2; p1 = cut_signed (a.p1 +ℤ half_lost w); p0 = cut_signed (a.p0 +ℤ gained w); q0 = cut_signed (a.q0 -ℤ lost w); q1 = cut_signed (a.q1 -ℤ half_lost w); q2 = h.q2; q3 = h.q3 }
+
+pub outer_signed : (steep : Bool) (a : Across) → AreSigned a → AreSigned (outer steep a)
+unfolding outer
+outer_signed true a h =
+    let w = step (s (a.p1 -ℤ a.q1)) a in
+    record { p3 = h.p3; p2 = h.p2; p1 = h.p1; p0 = cut_signed (a.p0 +ℤ gained w); q0 = cut_signed (a.q0 -ℤ lost w); q1 = h.q1; q2 = h.q2; q3 = h.q3 }
+outer_signed false a h =
+    let w = step (s (a.p1 -ℤ a.q1)) a in
+    record { p3 = h.p3; p2 = cut_signed (a.p2 +ℤ part 9 w); p1 = cut_signed (a.p1 +ℤ part 18 w); p0 = cut_signed (a.p0 +ℤ part 27 w); q0 = cut_signed (a.q0 -ℤ part 27 w); q1 = cut_signed (a.q1 -ℤ part 18 w); q2 = cut_signed (a.q2 -ℤ part 9 w); q3 = h.q3 }
+
+there_and_back : (n : ℕ) → plus_128 (pos n -ℤ pos 128) ≡ n
+there_and_back n = omega (arith, ints)
+
+same_put : (xs : List ℕ) (at : ℕ) → slice_set xs at (plus_128 (less_128 xs at)) ≡ xs
+same_put xs at = ap (slice_set xs at) (there_and_back (slice_index xs at)) ∙ set-get_or xs at 0
+
+-- what is put back as it was read changes nothing
+put_back : (xs : List ℕ) (at step : ℕ) → across_put at step (across xs at step) xs ≡ xs
+put_back xs at step =
+    let a = same_put xs (at - 3 * step) in
+    let b = same_put xs (at - 2 * step) in
+    let c = same_put xs (at - step) in
+    let d = same_put xs at in
+    let e = same_put xs (at + step) in
+    let f = same_put xs (at + 2 * step) in
+    rw (a, b, c, d, e, f) refl
+
+same_place : (e : Edge) (at step : ℕ) (xs : List ℕ) (a : Across) → place_filtered e.sort e.limit e.interior e.threshold (across xs at step) ≡ a → place_put e at step xs ≡ across_put at step a xs
+unfolding place_put
+same_place e at step xs a h = ap (λ (x : Across). across_put at step x xs) h
+
+left_alone : (e : Edge) (at step : ℕ) (xs : List ℕ) → place_filtered e.sort e.limit e.interior e.threshold (across xs at step) ≡ across xs at step → place_put e at step xs ≡ xs
+left_alone e at step xs h = same_place e at step xs (across xs at step) h ∙ put_back xs at step
+
+by_simple : (t : Sort) (l i h : ℕ) (a : Across) (b : Bool) → t ≡ Simple → b ≡ is_near l a → place_filtered t l i h a ≡ cond b (simple a) a
+unfolding place_filtered
+by_simple t l i h a b e f = rw (e, f) refl
+
+by_inner : (t : Sort) (l i h : ℕ) (a : Across) (b : Bool) → t ≡ Inner → b ≡ (is_near l a && is_smooth i a) → place_filtered t l i h a ≡ cond b (inner (is_steep h a) a) a
+unfolding place_filtered
+by_inner t l i h a b e f = rw (e, f) refl
+
+by_outer : (t : Sort) (l i h : ℕ) (a : Across) (b : Bool) → t ≡ Outer → b ≡ (is_near l a && is_smooth i a) → place_filtered t l i h a ≡ cond b (outer (is_steep h a) a) a
+unfolding place_filtered
+by_outer t l i h a b e f = rw (e, f) refl
+
+chosen : (b c : Bool) (x y : Across) → b ≡ c → cond b x y ≡ cond c x y
+chosen b c x y e = ap (λ (t : Bool). cond t x y) e
+
+-- each function's result is its definition's
+pub simple_left : (e : Edge) (at step : ℕ) (xs : List ℕ) (a : Across) (b : Bool) → e.sort ≡ Simple → a ≡ across xs at step → b ≡ is_near e.limit a → b ≡ false → xs ≡ place_put e at step xs
+simple_left e at step xs a b t r n f =
+    sym (left_alone e at step xs (by_simple e.sort e.limit e.interior e.threshold (across xs at step) b t (n ∙ ap (is_near e.limit) r) ∙ chosen b false _ _ f))
+
+pub simple_done : (e : Edge) (at step : ℕ) (xs ys : List ℕ) (a m : Across) (b : Bool) → e.sort ≡ Simple → a ≡ across xs at step → b ≡ is_near e.limit a → b ≡ true → m ≡ simple a → ys ≡ across_put at step m xs → ys ≡ place_put e at step xs
+simple_done e at step xs ys a m b t r n f s p =
+    p ∙ sym (same_place e at step xs m (by_simple e.sort e.limit e.interior e.threshold (across xs at step) b t (n ∙ ap (is_near e.limit) r) ∙ (chosen b true _ _ f ∙ (ap simple (sym r) ∙ sym s))))
+
+pub inner_left : (e : Edge) (at step : ℕ) (xs : List ℕ) (a : Across) (b : Bool) → e.sort ≡ Inner → a ≡ across xs at step → b ≡ (is_near e.limit a && is_smooth e.interior a) → b ≡ false → xs ≡ place_put e at step xs
+inner_left e at step xs a b t r n f =
+    sym (left_alone e at step xs (by_inner e.sort e.limit e.interior e.threshold (across xs at step) b t (n ∙ ap (λ (x : Across). is_near e.limit x && is_smooth e.interior x) r) ∙ chosen b false _ _ f))
+
+pub inner_done : (e : Edge) (at step : ℕ) (xs ys : List ℕ) (a m : Across) (b h : Bool) → e.sort ≡ Inner → a ≡ across xs at step → b ≡ (is_near e.limit a && is_smooth e.interior a) → b ≡ true → h ≡ is_steep e.threshold a → m ≡ inner h a → ys ≡ across_put at step m xs → ys ≡ place_put e at step xs
+inner_done e at step xs ys a m b h t r n f v s p =
+    p ∙ sym (same_place e at step xs m (by_inner e.sort e.limit e.interior e.threshold (across xs at step) b t (n ∙ ap (λ (x : Across). is_near e.limit x && is_smooth e.interior x) r)
+    ∙ (chosen b true _ _ f ∙ (ap (λ (x : Across). inner (is_steep e.threshold x) x) (sym r) ∙ (ap (λ (k : Bool). inner k a) (sym v) ∙ sym s)))))
+
+pub outer_left : (e : Edge) (at step : ℕ) (xs : List ℕ) (a : Across) (b : Bool) → e.sort ≡ Outer → a ≡ across xs at step → b ≡ (is_near e.limit a && is_smooth e.interior a) → b ≡ false → xs ≡ place_put e at step xs
+outer_left e at step xs a b t r n f =
+    sym (left_alone e at step xs (by_outer e.sort e.limit e.interior e.threshold (across xs at step) b t (n ∙ ap (λ (x : Across). is_near e.limit x && is_smooth e.interior x) r) ∙ chosen b false _ _ f))
+
+pub outer_done : (e : Edge) (at step : ℕ) (xs ys : List ℕ) (a m : Across) (b h : Bool) → e.sort ≡ Outer → a ≡ across xs at step → b ≡ (is_near e.limit a && is_smooth e.interior a) → b ≡ true → h ≡ is_steep e.threshold a → m ≡ outer h a → ys ≡ across_put at step m xs → ys ≡ place_put e at step xs
+outer_done e at step xs ys a m b h t r n f v s p =
+    p ∙ sym (same_place e at step xs m (by_outer e.sort e.limit e.interior e.threshold (across xs at step) b t (n ∙ ap (λ (x : Across). is_near e.limit x && is_smooth e.interior x) r)
+    ∙ (chosen b true _ _ f ∙ (ap (λ (x : Across). outer (is_steep e.threshold x) x) (sym r) ∙ (ap (λ (k : Bool). outer k a) (sym v) ∙ sym s)))))
+
+-- no place more, and one place more
+pub edge_none : (e : Edge) (at step along : ℕ) (xs : List ℕ) → xs ≡ edge_filtered e at step along 0 xs
+unfolding edge_filtered
+edge_none e at step along xs = refl
+
+pub edge_more : (e : Edge) (at step along n : ℕ) (start xs ys : List ℕ) → xs ≡ edge_filtered e at step along n start → ys ≡ place_put e (at + n * along) step xs → ys ≡ edge_filtered e at step along (n + 1) start
+unfolding edge_filtered
+edge_more e at step along n start xs ys h p = rw add-one (p ∙ ap (place_put e (at + n * along) step) h)
+
+length_put : (at step : ℕ) (a : Across) (xs : List ℕ) → length (across_put at step a xs) ≡ length xs
+length_put at step a xs = simp length-set
+
+pub length_place : (e : Edge) (at step : ℕ) (xs : List ℕ) → length (place_put e at step xs) ≡ length xs
+unfolding place_put
+length_place e at step xs = length_put at step (place_filtered e.sort e.limit e.interior e.threshold (across xs at step)) xs
+
+pub length_edge : (e : Edge) (at step along n : ℕ) (xs : List ℕ) → length (edge_filtered e at step along n xs) ≡ length xs
+unfolding edge_filtered
+length_edge e at step along zero xs = refl
+length_edge e at step along (suc n) xs = length_place e (at + n * along) step (edge_filtered e at step along n xs) ∙ length_edge e at step along n xs
