@@ -12,3 +12,6 @@ pub use across::{Across, inner, outer, simple};
 pub use head::{FilterHead, MbInfo};
 pub use limits::Limits;
 pub use picture::filter_picture;
+
+#[cfg(test)]
+mod tests;
