@@ -5,6 +5,9 @@ ghost use Rattle.std.specs.Prelude.{◌≡◌, pos, map, replicate};
 ghost use Rattle.sal_tables.specs.Tables.{six_taps_of};
 ghost use Rattle.sal_inter.specs.Inter.{gain};
 
+mod filter;
+mod taps;
+
 /// The taps of each of the eight filters sum to 128, so that where all samples are alike they stay as they are.
 pub fn filters_keep_the_level()
     ensures { map gain six_taps_of ≡ replicate 8 (pos 128) }
