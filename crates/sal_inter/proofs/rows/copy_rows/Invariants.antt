@@ -1,0 +1,7 @@
+use Rattle.std.proofs.Common.{◌*◌}
+use Rattle.sal_inter.specs.Taps.{placed}
+use Rattle.sal_inter.proofs.Blocks.{BlockTo}
+use Rattle.sal_inter.proofs.rows.copy_rows.Given as goal
+
+abbrev pub invariant-loop-row : goal.invariant-loop-row
+invariant-loop-row l = BlockTo l.width (l.row * l.width) l.out (placed l.samples l.stride)
