@@ -39,7 +39,7 @@ pub rows_more : (width row n : ℕ) (out part : List ℕ) (f : ℕ → ℕ → �
     → BlockTo width (row * width) out f → ((i : ℕ) → i < width → get_or part i 0 ≡ f row i) → BlockTo width ((row + 1) * width) (put_mid (row * width) n out part) f
 rows_more width row n out part f fits long before here k lt = by_row width row n out part f k fits long (omega arith) before here (leb_tells (row * width) k)
 
-same_weighed : (t : Taps) {a b c d e f a' b' c' d' e' f' : ℕ} → a ≡ a' → b ≡ b' → c ≡ c' → d ≡ d' → e ≡ e' → f ≡ f' → weighed t a b c d e f ≡ weighed t a' b' c' d' e' f'
+pub same_weighed : (t : Taps) {a b c d e f a' b' c' d' e' f' : ℕ} → a ≡ a' → b ≡ b' → c ≡ c' → d ≡ d' → e ≡ e' → f ≡ f' → weighed t a b c d e f ≡ weighed t a' b' c' d' e' f'
 same_weighed t ha hb hc hd he hf = cc
 
 further : (from : ℕ) (samples : List ℕ) (i n : ℕ) → get_or (drop from samples) (i + n) 0 ≡ get_or samples (from + i + n) 0

@@ -6,6 +6,7 @@ ghost use Rattle.sal_tables.specs.Tables.{six_taps_of};
 ghost use Rattle.sal_inter.specs.Inter.{gain};
 
 mod filter;
+mod interpolate;
 mod rows;
 mod taps;
 

@@ -1,0 +1,30 @@
+-- What a block reads of a reference: the window of samples around it.
+use Rattle.std.specs.Prelude.{ℕ, suc, zero, ◌+◌, ◌*◌, ℤ, pos, ◌-ℤ◌, List}
+use Rattle.sal_inter.specs.Inter.{six_sum}
+use Rattle.sal_inter.specs.Taps.{weighed, filtered, placed}
+use Rattle.sal_inter.specs.declared.taps.Taps.{Taps}
+
+-- how many more samples than a block has are read along a side: five by a filter, none where there is no fraction
+abbrev pub reach : ℕ → ℕ
+reach zero = 0
+reach (suc fraction) = 5
+
+-- how many of them lie before the block
+abbrev pub before : ℕ → ℤ
+before zero = pos 0
+before (suc fraction) = pos 2
+
+-- the sample at n of what is read, or six from there on through the filter of a fraction
+abbrev pub taken : ℕ → (ℕ → ℕ) → ℕ → ℕ
+taken zero f n = f n
+taken (suc k) f n = six_sum (suc k) (f n) (f (n + 1)) (f (n + 2)) (f (n + 3)) (f (n + 4)) (f (n + 5))
+
+-- rows first, then the column of their results
+abbrev pub taken_both : ℕ → ℕ → (ℕ → ℕ → ℕ) → ℕ → ℕ → ℕ
+taken_both across down f row column = taken down (λ r. taken across (λ c. f r c) column) row
+
+-- filtered rows, and six of them through a second filter
+abbrev pub filtered_both : Taps → Taps → List ℕ → ℕ → ℕ → ℕ → ℕ
+filtered_both across down samples stride row column =
+    let f = filtered across samples stride 1 in
+    weighed down (f row column) (f (row + 1) column) (f (row + 2) column) (f (row + 3) column) (f (row + 4) column) (f (row + 5) column)
