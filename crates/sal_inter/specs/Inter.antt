@@ -1,5 +1,5 @@
 -- The predicted sample at one place: a sum over six rows of sums over six columns (RFC 6386, 18.3).
-use Rattle.std.specs.Prelude.{ℕ, ◌+◌, ◌-◌, ◌*◌, ◌/◌, min, ℤ, pos, negsuc, neg_ℤ, ◌+ℤ◌, ◌-ℤ◌, ◌*ℤ◌, List, [], ◌∷◌, Bool, if◌then◌else◌, slice_index, slice_index_or, unsigned_abs}
+use Rattle.std.specs.Prelude.{◌≡◌, ◌≤◌, ℕ, ◌+◌, ◌-◌, ◌*◌, ◌/◌, min, ℤ, pos, negsuc, neg_ℤ, ◌+ℤ◌, ◌-ℤ◌, ◌*ℤ◌, List, [], ◌∷◌, Bool, if◌then◌else◌, slice_index, slice_index_or, unsigned_abs, length}
 use Rattle.std.specs.Int.{int_shr, int_rem_euclid}
 use Rattle.sal_base.specs.Samples.{clamped}
 use Rattle.sal_base.specs.declared.kinds.Vector.{Vector}
@@ -10,6 +10,12 @@ use Rattle.sal_tables.specs.Tables.{six_taps_of}
 abbrev pub place_in : ℕ → ℤ → ℕ
 place_in side (pos n) = min n (side - 1)
 place_in side (negsuc n) = 0
+
+-- a plane that has samples, as many as its sides say
+pub record HasSamples (p : Plane) : Type 0 where
+  pub wide : 1 ≤ p.width
+  pub high : 1 ≤ p.height
+  pub samples : length p.samples ≡ p.width * p.height
 
 -- the sample of a plane at column x, row y; outside the plane the nearest edge sample
 abbrev pub sample : Plane → ℤ → ℤ → ℕ

@@ -1,6 +1,7 @@
 -- What a block reads of a reference: the window of samples around it.
-use Rattle.std.specs.Prelude.{ℕ, suc, zero, ◌+◌, ◌*◌, ℤ, pos, ◌-ℤ◌, List}
-use Rattle.sal_inter.specs.Inter.{six_sum}
+use Rattle.std.specs.Prelude.{◌≡◌, ℕ, suc, zero, ◌+◌, ◌*◌, ◌^◌, Bool, ℤ, pos, neg_ℤ, ◌+ℤ◌, ◌-ℤ◌, ◌≤ℤ◌, List, length, slice_index}
+use Rattle.sal_inter.specs.Inter.{six_sum, place_in, whole_of, fraction_of}
+use Rattle.sal_inter.specs.declared.span.Span.{Span}
 use Rattle.sal_inter.specs.Taps.{weighed, filtered, placed}
 use Rattle.sal_inter.specs.declared.taps.Taps.{Taps}
 
@@ -28,3 +29,22 @@ abbrev pub filtered_both : Taps → Taps → List ℕ → ℕ → ℕ → ℕ �
 filtered_both across down samples stride row column =
     let f = filtered across samples stride 1 in
     weighed down (f row column) (f (row + 1) column) (f (row + 2) column) (f (row + 3) column) (f (row + 4) column) (f (row + 5) column)
+
+-- a place that a vector can lead to
+abbrev pub IsPlace : ℤ → Type 0
+IsPlace z = (neg_ℤ (pos (2 ^ 33)) ≤ℤ z) × (z ≤ℤ pos (2 ^ 33))
+
+-- a sample of a row, past its ends the nearest
+abbrev pub nearest : List ℕ → ℤ → ℕ
+nearest samples column = slice_index samples (place_in (length samples) column)
+
+-- what a block reads along a side: its samples, and with a fraction two before them and three after them
+pub record IsSpan (place : ℤ) (side : ℕ) (eighths : Bool) (component : ℤ) (s : Span) : Type 0 where
+  pub fraction : s.fraction ≡ fraction_of eighths component
+  pub start : s.start ≡ (place +ℤ whole_of eighths component) -ℤ before s.fraction
+  pub count : s.count ≡ side + reach s.fraction
+
+-- all of it lies in a side of so many samples
+pub record IsInside (s : Span) (side : ℕ) : Type 0 where
+  pub low : pos 0 ≤ℤ s.start
+  pub high : (s.start +ℤ pos s.count) ≤ℤ pos side

@@ -6,8 +6,10 @@ ghost use Rattle.sal_tables.specs.Tables.{six_taps_of};
 ghost use Rattle.sal_inter.specs.Inter.{gain};
 
 mod filter;
+mod gather;
 mod interpolate;
 mod rows;
+mod span;
 mod taps;
 
 /// The taps of each of the eight filters sum to 128, so that where all samples are alike they stay as they are.

@@ -1,0 +1,50 @@
+//! Windows that reach past the edge of a plane (RFC 6386, section 18.3).
+
+ghost use Rattle.std.specs.Prelude.{◌≡◌, ℕ, ◌+◌, ◌*◌, ◌<◌, ◌≤◌, pos, ◌+ℤ◌, length, slice_index};
+ghost use Rattle.sal_base.specs.Samples.{IsBlockOf};
+ghost use Rattle.sal_inter.specs.Inter.{place_in, sample, HasSamples};
+ghost use Rattle.sal_inter.specs.Windows.{IsPlace, nearest};
+
+use sal_base::Plane;
+
+// A place cut off at 0 and at the last one of a side.
+fn place_in(side: usize, place: i64) -> usize
+    requires side { (1 ≤ side) × (side < 65536) }
+    ensures value { result ≡ place_in side place }
+    ensures inside { result < side }
+{
+    place.clamp(0, side as i64 - 1) as usize
+}
+
+// Samples of a row from a column on.
+fn gather_row(samples: &[u8], left: i64, out: &mut [u8])
+    requires samples { (1 ≤ length samples.now) × (length samples.now < 65536) }
+    requires left { IsPlace left }
+    requires out { length out.old ≤ 21 }
+    ensures { (k : ℕ) → k < length out.new → slice_index out.new k ≡ nearest samples.now (left +ℤ pos k) }
+{
+    for (k, sample) in out.iter_mut().enumerate() {
+        *sample = samples[place_in(samples.len(), left + k as i64)];
+    }
+}
+
+/// The samples of a plane from a column and a row on, outside it the nearest at its edge.
+pub(crate) fn gather(plane: &Plane, left: i64, top: i64, width: usize, height: usize, out: &mut [u8])
+    requires plane { HasSamples plane.now }
+    requires left { IsPlace left }
+    requires top { IsPlace top }
+    requires width { (1 ≤ width) × (width ≤ 21) }
+    requires height { height ≤ 21 }
+    requires out { length out.old ≡ width * height }
+    ensures { IsBlockOf width (width * height) out.new (λ row column. sample plane.now (left +ℤ pos column) (top +ℤ pos row)) }
+{
+    let side = plane.width as usize;
+    for row in 0..height {
+        let (at, from) = (row * width, side * place_in(plane.height as usize, top + row as i64));
+        gather_row(
+            &plane.samples.as_slice()[from..from + side],
+            left,
+            &mut out[at..at + width],
+        );
+    }
+}
