@@ -1,6 +1,7 @@
 -- What a block reads of a reference: the window of samples around it.
-use Rattle.std.specs.Prelude.{◌≡◌, ℕ, suc, zero, ◌+◌, ◌*◌, ◌^◌, Bool, ℤ, pos, neg_ℤ, ◌+ℤ◌, ◌-ℤ◌, ◌≤ℤ◌, List, length, slice_index}
-use Rattle.sal_inter.specs.Inter.{six_sum, place_in, whole_of, fraction_of}
+use Rattle.std.specs.Prelude.{◌≡◌, ℕ, suc, zero, ◌+◌, ◌*◌, ◌^◌, ◌<◌, Bool, ℤ, pos, neg_ℤ, ◌+ℤ◌, ◌-ℤ◌, ◌≤ℤ◌, List, length, slice_index}
+use Rattle.sal_inter.specs.Inter.{six_sum, place_in, sample, whole_of, fraction_of}
+use Rattle.sal_base.specs.declared.picture.Plane.{Plane}
 use Rattle.sal_inter.specs.declared.span.Span.{Span}
 use Rattle.sal_inter.specs.Taps.{weighed, filtered, placed}
 use Rattle.sal_inter.specs.declared.taps.Taps.{Taps}
@@ -38,13 +39,37 @@ IsPlace z = (neg_ℤ (pos (2 ^ 33)) ≤ℤ z) × (z ≤ℤ pos (2 ^ 33))
 abbrev pub nearest : List ℕ → ℤ → ℕ
 nearest samples column = slice_index samples (place_in (length samples) column)
 
--- what a block reads along a side: its samples, and with a fraction two before them and three after them
+-- what a block of a side reads along it: its samples, and with a fraction five more
+pub record Reads (side : ℕ) (s : Span) : Type 0 where
+  pub fraction : s.fraction < 8
+  pub count : s.count ≡ side + reach s.fraction
+  pub start : IsPlace s.start
+
+-- the same by a vector's component, from two samples before the block on where there is a fraction
 pub record IsSpan (place : ℤ) (side : ℕ) (eighths : Bool) (component : ℤ) (s : Span) : Type 0 where
   pub fraction : s.fraction ≡ fraction_of eighths component
   pub start : s.start ≡ (place +ℤ whole_of eighths component) -ℤ before s.fraction
-  pub count : s.count ≡ side + reach s.fraction
+  pub reads : Reads side s
 
 -- all of it lies in a side of so many samples
 pub record IsInside (s : Span) (side : ℕ) : Type 0 where
   pub low : pos 0 ≤ℤ s.start
   pub high : (s.start +ℤ pos s.count) ≤ℤ pos side
+
+-- where the first sample of two spans stands in rows of a width
+pub record IsFirst (width : ℕ) (across down : Span) (at : ℕ) : Type 0 where
+  pub column : ℕ
+  pub row : ℕ
+  pub across_is : across.start ≡ pos column
+  pub down_is : down.start ≡ pos row
+  pub at_is : at ≡ row * width + column
+
+-- the sample at a row and column of a block out of its window in a plane
+abbrev pub window_sample : Plane → Span → Span → ℕ → ℕ → ℕ
+window_sample p across down row column =
+    taken_both across.fraction down.fraction (λ r c. sample p (across.start +ℤ pos c) (down.start +ℤ pos r)) row column
+
+-- rows that lie a stride apart hold the window of two spans
+abbrev pub IsWindow : Plane → Span → Span → List ℕ → ℕ → Type 0
+IsWindow p across down samples stride =
+    (r c : ℕ) → r < down.count → c < across.count → slice_index samples (r * stride + c) ≡ sample p (across.start +ℤ pos c) (down.start +ℤ pos r)

@@ -5,6 +5,7 @@ ghost use Rattle.std.specs.Prelude.{◌≡◌, pos, map, replicate};
 ghost use Rattle.sal_tables.specs.Tables.{six_taps_of};
 ghost use Rattle.sal_inter.specs.Inter.{gain};
 
+mod block;
 mod filter;
 mod gather;
 mod interpolate;

@@ -1,8 +1,8 @@
 //! What a block reads of a reference along one side (RFC 6386, sections 5 and 18.3).
 
-ghost use Rattle.std.specs.Prelude.{◌≡◌, pos, neg_ℤ, ◌≤ℤ◌, ◌+◌, ◌<◌, ◌≤◌, ◌-ℤ◌, ◌+ℤ◌, ◌↔◌, IsTrue};
+ghost use Rattle.std.specs.Prelude.{◌≡◌, pos, neg_ℤ, ◌≤ℤ◌, ◌+◌, ◌<◌, ◌≤◌,  ◌↔◌, IsTrue};
 ghost use Rattle.sal_inter.specs.Inter.{whole_of, fraction_of};
-ghost use Rattle.sal_inter.specs.Windows.{IsPlace, IsSpan, IsInside, before, reach};
+ghost use Rattle.sal_inter.specs.Windows.{IsPlace, IsSpan, IsInside};
 
 /// From where on, how many samples, and the eighths of a sample between them.
 #[derive(Clone, Copy)]
@@ -40,8 +40,7 @@ impl Span {
     /// Of a block of `side` samples from `place` on, by a vector's component.
     pub(crate) fn of(place: i32, side: usize, eighths: bool, component: i16) -> Span
         requires side { side ≤ 16 }
-        ensures span { IsSpan place side eighths component result }
-        ensures place { IsPlace result.start }
+        ensures { IsSpan place side eighths component result }
     {
         let fraction = fraction_of(eighths, component);
         let start = place as i64 + whole_of(eighths, component);

@@ -1,0 +1,20 @@
+use Rattle.std.proofs.Common.{◌≡◌, ℕ, arith, length, ap, ◌∙◌, List, ◌*◌, ◌+◌, ◌≤◌, ◌<◌, pos, ◌+ℤ◌, ◌≤ℤ◌}
+use Rattle.std.proofs.lemmas.Int.{ints}
+use Rattle.sal_inter.proofs.Places.{window_fits, rest_inside, rest_long}
+use Rattle.sal_inter.proofs.block.window_in.Goals as goal
+
+pub returns-clause-long : goal.returns-clause-long
+returns-clause-long c =
+    let a = c.args in
+    let first = c.first_in.ensures.first in
+    let all : length c.as_slice.result.now ≡ a.plane.now.width * a.plane.now.height = ap (λ (xs : List ℕ). length xs) c.as_slice.ensures ∙ c.requires.plane.samples in
+    let inside : c.first_in.result ≤ length c.as_slice.result.now = omega arith in
+    let rest = rest_long c.as_slice.result.now c.first_in.result inside in
+    window_fits a.plane.now.width a.plane.now.height first.column first.row a.across.count a.down.count _ _ _ all rest first.at_is (omega (arith, ints, first.down_is)) (omega (arith, ints, first.across_is))
+
+pub returns-clause-window : goal.returns-clause-window
+returns-clause-window c = λ (r k : ℕ) (hr : r < c.args.down.count) (hk : k < c.args.across.count).
+    let a = c.args in
+    let first = c.first_in.ensures.first in
+    rest_inside a.plane.now c.as_slice.result.now c.first_in.result first.column first.row r k a.across.start a.down.start c.as_slice.ensures first.at_is first.across_is first.down_is
+      (omega (arith, ints, first.across_is)) (omega (arith, ints, first.down_is))
