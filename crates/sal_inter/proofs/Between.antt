@@ -8,7 +8,7 @@ use Rattle.sal_inter.specs.Windows.{taken, taken_both, filtered_both}
 use Rattle.sal_inter.proofs.Blocks.{same_weighed}
 use Rattle.sal_inter.specs.declared.taps.Taps.{Taps}
 
-at_place : (width row column i : ℕ) (y : ℕ) (f : ℕ → ℕ → ℕ) → column < width → i ≡ row * width + column → y ≡ f (i / width) (i % width) → y ≡ f row column
+pub at_place : (width row column i : ℕ) (y : ℕ) (f : ℕ → ℕ → ℕ) → column < width → i ≡ row * width + column → y ≡ f (i / width) (i % width) → y ≡ f row column
 at_place width row column i y f lt e h =
     subst (λ (r : ℕ). y ≡ f r column) (ap (λ (m : ℕ). m / width) e ∙ div-mul-add row width column lt)
       (subst (λ (c : ℕ). y ≡ f (i / width) c) (ap (λ (m : ℕ). m % width) e ∙ mod-mul-add row width column lt) h)

@@ -60,7 +60,7 @@ taken_small (suc (suc (suc (suc (suc (suc (suc (suc k)))))))) h = absurd (omega 
 abbrev rounding : List ℤ → ℕ → ℕ → ℕ → ℕ → ℕ → ℕ → ℤ
 rounding taps a b c d e f = (((((tap taps 0 a +ℤ tap taps 1 b) +ℤ tap taps 2 c) +ℤ tap taps 3 d) +ℤ tap taps 4 e) +ℤ tap taps 5 f) +ℤ pos 64
 
-summed : (k a b c d e f : ℕ) → k < 8 → by_sizes (size k 0) (size k 1) (size k 2) (size k 3) (size k 4) (size k 5) a b c d e f ≡ six_sum k a b c d e f
+pub summed : (k a b c d e f : ℕ) → k < 8 → by_sizes (size k 0) (size k 1) (size k 2) (size k 3) (size k 4) (size k 5) a b c d e f ≡ six_sum k a b c d e f
 unfolding six_taps_of six_sum
 summed zero a b c d e f h = sym (in_parts (rounding (taps_of 0) a b c d e f) (64 + 0 * a + 128 * c + 0 * d + 0 * f) (0 * b + 0 * e) (omega (arith, ints)))
 summed (suc zero) a b c d e f h = sym (in_parts (rounding (taps_of 1) a b c d e f) (64 + 0 * a + 123 * c + 12 * d + 0 * f) (6 * b + 1 * e) (omega (arith, ints)))
@@ -82,3 +82,19 @@ added_at k s0 s2 s3 s5 h e0 e2 e3 e5 = let bound : size k 0 + size k 2 + size k 
 
 pub taken_at : (k s1 s4 : ℕ) → k < 8 → s1 ≡ size k 1 → s4 ≡ size k 4 → s1 + s4 ≤ 32
 taken_at k s1 s4 h e1 e4 = let bound : size k 1 + size k 4 ≤ 32 = taken_small k h in rw (e1, e4) bound
+
+-- the filter of no fraction keeps the sample
+pub six_identity : (a b c d e f : ℕ) → c ≤ 255 → six_sum 0 a b c d e f ≡ c
+unfolding six_taps_of
+six_identity a b c d e f h = sym (summed 0 a b c d e f (omega arith)) ∙ omega arith
+
+clamped_small : (z : ℤ) → clamped z ≤ 255
+clamped_small (pos n) = omega arith
+clamped_small (negsuc n) = omega arith
+
+pub six_small : (k a b c d e f : ℕ) → six_sum k a b c d e f ≤ 255
+unfolding six_sum
+six_small k a b c d e f = clamped_small _
+
+pub same_six : (k : ℕ) {a b c d e f a' b' c' d' e' f' : ℕ} → a ≡ a' → b ≡ b' → c ≡ c' → d ≡ d' → e ≡ e' → f ≡ f' → six_sum k a b c d e f ≡ six_sum k a' b' c' d' e' f'
+same_six k ha hb hc hd he hf = cc

@@ -36,7 +36,8 @@ pub(crate) fn gather(plane: &Plane, left: i64, top: i64, width: usize, height: u
     requires width { (1 ≤ width) × (width ≤ 21) }
     requires height { height ≤ 21 }
     requires out { length out.old ≡ width * height }
-    ensures { IsBlockOf width (width * height) out.new (λ row column. sample plane.now (left +ℤ pos column) (top +ℤ pos row)) }
+    ensures long { length out.new ≡ width * height }
+    ensures samples { IsBlockOf width (width * height) out.new (λ row column. sample plane.now (left +ℤ pos column) (top +ℤ pos row)) }
 {
     let side = plane.width as usize;
     for row in 0..height {

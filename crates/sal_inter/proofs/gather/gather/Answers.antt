@@ -15,8 +15,8 @@ loop-row-preserved c =
         ∙ row_nearest a.plane.now _ _ (as_passed a.left +ℤ pos i) (as_passed a.top +ℤ pos c.loop-row.row) c.requires.plane c.as_slice.ensures
           (c.place_in.ensures.value ∙ ap (λ (z : ℤ). place_in a.plane.now.height z) (kept_sum a.top c.loop-row.row c.requires.top (omega arith))))
 
-pub returns : goal.returns
-returns c = λ k h.
+pub returns-clause-samples : goal.returns-clause-samples
+returns-clause-samples c = λ k h.
     let a = c.args in
     let all : c.loop-row.row ≡ a.height = omega arith in
     let long : c.loop-row.row * a.width ≡ a.width * a.height = ap (λ (n : ℕ). n * a.width) all ∙ mul_comm a.height a.width in
