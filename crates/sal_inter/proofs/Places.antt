@@ -8,6 +8,7 @@ use Rattle.std.proofs.lemmas.Nat.{row_fits}
 use Rattle.sal_base.specs.declared.picture.Plane.{Plane}
 use Rattle.sal_inter.specs.Inter.{place_in, sample, HasSamples, whole_of, fraction_of}
 use Rattle.sal_inter.specs.Windows.{nearest, IsPlace, IsSpan}
+use Rattle.sal_inter.specs.declared.span.Span.{Span}
 use Rattle.sal_inter.proofs.Blocks.{part_long, part_at}
 
 -- a number as it is passed
@@ -111,3 +112,8 @@ rest_inside p samples at l t r c x y is starts ex ey column row =
 
 pub rest_long : (samples : List ℕ) (at : ℕ) → at ≤ length samples → length (take (length samples - at) (drop at samples)) + at ≡ length samples
 rest_long samples at h = simp (length-take, length-drop) (omega arith)
+
+-- a span of numbers that were passed
+pub span_passed : (x x' : ℤ) (side : ℕ) (eighths : Bool) (component component' : ℤ) (s : Span) → x ≡ x' → component ≡ component' → IsSpan x side eighths component s → IsSpan x' side eighths component' s
+span_passed x x' side eighths component component' s ex ec is =
+    subst (λ (z : ℤ). IsSpan z side eighths component' s) ex (subst (λ (z : ℤ). IsSpan x side eighths z s) ec is)

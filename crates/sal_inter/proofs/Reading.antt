@@ -7,7 +7,7 @@ use Rattle.sal_base.specs.declared.picture.Plane.{Plane}
 use Rattle.sal_base.specs.declared.kinds.Vector.{Vector}
 use Rattle.sal_inter.specs.Inter.{sample, interpolated, inter_sample, whole_of, fraction_of}
 use Rattle.sal_inter.specs.Taps.{placed}
-use Rattle.sal_inter.specs.Windows.{taken, taken_both, reach, before, Reads, IsSpan, IsWindow, window_sample}
+use Rattle.sal_inter.specs.Windows.{taken, taken_both, reach, before, Reads, IsSpan, IsWindow, AreBytes, window_sample}
 use Rattle.sal_inter.specs.declared.span.Span.{Span}
 use Rattle.sal_inter.proofs.Weighing.{six_identity, six_small, same_six}
 use Rattle.sal_inter.proofs.Between.{at_place}
@@ -46,8 +46,11 @@ interpolated_small : (k : ℕ) (f : ℤ → ℕ) (z : ℤ) → interpolated k f 
 unfolding interpolated
 interpolated_small k f z = six_small _ _ _ _ _ _ _
 
+byte : {n : ℕ} → n < 256 → n ≤ 255
+byte h = omega arith
+
 -- a block's sample out of its window is the definition's
-pub window_inter : (p : Plane) (v : Vector) (eighths : Bool) (x y : ℤ) (width height row column : ℕ) (across down : Span) → ((i : ℕ) → get_or p.samples i 0 ≤ 255)
+pub window_inter : (p : Plane) (v : Vector) (eighths : Bool) (x y : ℤ) (width height row column : ℕ) (across down : Span) → AreBytes p.samples
     → IsSpan x width eighths v.column across → IsSpan y height eighths v.row down → window_sample p across down row column ≡ inter_sample p v eighths (x +ℤ pos column) (y +ℤ pos row)
 unfolding inter_sample
 window_inter p v eighths x y width height row column across down bytes sa sd =
@@ -55,7 +58,7 @@ window_inter p v eighths x y width height row column across down bytes sa sd =
     let left : ℤ = x +ℤ whole_of eighths v.column in
     let top : ℤ = y +ℤ whole_of eighths v.row in
     let rows = taken_same down.fraction _ (λ (r : ℕ). f (left +ℤ pos column) (down.start +ℤ pos r)) row
-      (λ (r : ℕ) (h : r ≤ row + reach down.fraction). taken_interpolated across.fraction (λ (c : ℤ). sample p c (down.start +ℤ pos r)) left across.start column (λ (w : ℤ). bytes _) sa.start) in
+      (λ (r : ℕ) (h : r ≤ row + reach down.fraction). taken_interpolated across.fraction (λ (c : ℤ). sample p c (down.start +ℤ pos r)) left across.start column (λ (w : ℤ). byte (bytes _)) sa.start) in
     let both = taken_interpolated down.fraction (f (left +ℤ pos column)) top down.start row (λ (w : ℤ). interpolated_small _ _ _) sd.start in
     let column_at : left +ℤ pos column ≡ (x +ℤ pos column) +ℤ whole_of eighths v.column = omega (arith, ints) in
     let row_at : top +ℤ pos row ≡ (y +ℤ pos row) +ℤ whole_of eighths v.row = omega (arith, ints) in

@@ -35,6 +35,10 @@ filtered_both across down samples stride row column =
 abbrev pub IsPlace : ℤ → Type 0
 IsPlace z = (neg_ℤ (pos (2 ^ 33)) ≤ℤ z) × (z ≤ℤ pos (2 ^ 33))
 
+-- each sample is a byte
+abbrev pub AreBytes : List ℕ → Type 0
+AreBytes samples = (i : ℕ) → slice_index samples i < 256
+
 -- a sample of a row, past its ends the nearest
 abbrev pub nearest : List ℕ → ℤ → ℕ
 nearest samples column = slice_index samples (place_in (length samples) column)

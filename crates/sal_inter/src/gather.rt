@@ -3,9 +3,27 @@
 ghost use Rattle.std.specs.Prelude.{◌≡◌, ℕ, ◌+◌, ◌*◌, ◌<◌, ◌≤◌, pos, ◌+ℤ◌, length, slice_index};
 ghost use Rattle.sal_base.specs.Samples.{IsBlockOf};
 ghost use Rattle.sal_inter.specs.Inter.{place_in, sample, HasSamples};
-ghost use Rattle.sal_inter.specs.Windows.{IsPlace, nearest};
+ghost use Rattle.sal_inter.specs.Windows.{IsPlace, AreBytes, nearest};
 
 use sal_base::Plane;
+
+// A slice as it is, of which it is told that it has bytes.
+#[inline]
+fn told_bytes(samples: &[u8]) -> &[u8]
+    ensures same { result.now ≡ samples.now }
+    ensures bytes { AreBytes result.now }
+{
+    samples
+}
+
+/// The samples of a plane.
+#[inline]
+pub(crate) fn samples_of(plane: &Plane) -> &[u8]
+    ensures samples { result.now ≡ plane.now.samples }
+    ensures bytes { AreBytes plane.now.samples }
+{
+    told_bytes(plane.samples.as_slice())
+}
 
 // A place cut off at 0 and at the last one of a side.
 fn place_in(side: usize, place: i64) -> usize
@@ -36,14 +54,15 @@ pub(crate) fn gather(plane: &Plane, left: i64, top: i64, width: usize, height: u
     requires width { (1 ≤ width) × (width ≤ 21) }
     requires height { height ≤ 21 }
     requires out { length out.old ≡ width * height }
+    ensures bytes { AreBytes plane.now.samples }
     ensures long { length out.new ≡ width * height }
     ensures samples { IsBlockOf width (width * height) out.new (λ row column. sample plane.now (left +ℤ pos column) (top +ℤ pos row)) }
 {
-    let side = plane.width as usize;
+    let (samples, side) = (samples_of(plane), plane.width as usize);
     for row in 0..height {
         let (at, from) = (row * width, side * place_in(plane.height as usize, top + row as i64));
         gather_row(
-            &plane.samples.as_slice()[from..from + side],
+            &samples[from..from + side],
             left,
             &mut out[at..at + width],
         );

@@ -1,4 +1,4 @@
-//! Inter prediction: what a sample is by a vector into a reference (RFC 6386, section 18).
+//! Inter prediction of blocks by vectors into a reference (RFC 6386, section 18). None takes memory.
 #![tactic(auto)]
 
 ghost use Rattle.std.specs.Prelude.{◌≡◌, pos, map, replicate};
@@ -12,6 +12,8 @@ mod interpolate;
 mod rows;
 mod span;
 mod taps;
+
+pub use block::predict_block;
 
 /// The taps of each of the eight filters sum to 128, so that where all samples are alike they stay as they are.
 pub fn filters_keep_the_level()

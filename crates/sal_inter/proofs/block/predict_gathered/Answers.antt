@@ -10,8 +10,8 @@ interpolate-requires-clause-samples c =
     let all : a.across.count * a.down.count ≡ a.across.count * (a.height + reach a.down.fraction) = ap (λ (n : ℕ). a.across.count * n) c.requires.down.count in
     omega (arith, c.gather.ensures.long, c.requires.across.count)
 
-pub returns : goal.returns
-returns c = λ k h.
+pub returns-clause-samples : goal.returns-clause-samples
+returns-clause-samples c = λ k h.
     let a = c.args in
     c.interpolate.ensures k h
     ∙ window_taken a.plane.now a.across a.down c.gather.new.out a.across.count a.width a.height k c.requires.across c.requires.down
