@@ -1,8 +1,7 @@
 -- Filtered rows, and columns of filtered rows, as six sums.
-use Rattle.std.proofs.Common.{◌≡◌, ◌≢◌, ◌∙◌, sym, ap, refl, arith, ℕ, suc, zero, ◌+◌, ◌*◌, ◌/◌, ◌%◌, ◌<◌, ◌≤◌, List, get_or, subst}
+use Rattle.std.proofs.Common.{◌≡◌, ◌≢◌, ◌∙◌, ap, refl, arith, ℕ, suc, zero, ◌+◌, ◌*◌, ◌/◌, ◌%◌, ◌<◌, ◌≤◌, List, get_or, subst}
 use Rattle.std.proofs.lemmas.Nat.{div-mul-add, mod-mul-add, div-add-mod', mod_below, row_fits}
 use Rattle.sal_base.specs.Samples.{IsBlockOf}
-use Rattle.sal_inter.specs.Inter.{six_sum}
 use Rattle.sal_inter.specs.Taps.{weighed, weighed_at, filtered, placed, IsFilter}
 use Rattle.sal_inter.specs.Windows.{taken, taken_both, filtered_both}
 use Rattle.sal_inter.proofs.Blocks.{same_weighed}
@@ -11,7 +10,7 @@ use Rattle.sal_inter.specs.declared.taps.Taps.{Taps}
 pub at_place : (width row column i : ℕ) (y : ℕ) (f : ℕ → ℕ → ℕ) → column < width → i ≡ row * width + column → y ≡ f (i / width) (i % width) → y ≡ f row column
 at_place width row column i y f lt e h =
     subst (λ (r : ℕ). y ≡ f r column) (ap (λ (m : ℕ). m / width) e ∙ div-mul-add row width column lt)
-      (subst (λ (c : ℕ). y ≡ f (i / width) c) (ap (λ (m : ℕ). m % width) e ∙ mod-mul-add row width column lt) h)
+    (subst (λ (c : ℕ). y ≡ f (i / width) c) (ap (λ (m : ℕ). m % width) e ∙ mod-mul-add row width column lt) h)
 
 -- the sample j rows below a place
 below : (width height j k : ℕ) (rows : List ℕ) (f : ℕ → ℕ → ℕ) → 1 ≤ width → j ≤ 5 → k < width * height → IsBlockOf width (width * (height + 5)) rows f
@@ -27,9 +26,9 @@ pub columns_weighed : (t : Taps) (width height k : ℕ) (rows : List ℕ) (f : �
     → weighed_at t rows width k ≡ weighed t (f (k / width) (k % width)) (f (k / width + 1) (k % width)) (f (k / width + 2) (k % width)) (f (k / width + 3) (k % width)) (f (k / width + 4) (k % width)) (f (k / width + 5) (k % width))
 columns_weighed t width height k rows f some lt block =
     same_weighed t (block k (omega arith))
-      (ap (λ (i : ℕ). get_or rows i 0) (omega arith) ∙ below width height 1 k rows f some (omega arith) lt block)
-      (below width height 2 k rows f some (omega arith) lt block) (below width height 3 k rows f some (omega arith) lt block)
-      (below width height 4 k rows f some (omega arith) lt block) (below width height 5 k rows f some (omega arith) lt block)
+    (ap (λ (i : ℕ). get_or rows i 0) (omega arith) ∙ below width height 1 k rows f some (omega arith) lt block)
+    (below width height 2 k rows f some (omega arith) lt block) (below width height 3 k rows f some (omega arith) lt block)
+    (below width height 4 k rows f some (omega arith) lt block) (below width height 5 k rows f some (omega arith) lt block)
 
 -- a filtered sample of a row is six of it by the filter
 across_taken : (k : ℕ) (t : Taps) (samples : List ℕ) (stride row column : ℕ) → IsFilter (suc k) t → filtered t samples stride 1 row column ≡ taken (suc k) (λ c. placed samples stride row c) column

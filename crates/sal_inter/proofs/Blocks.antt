@@ -1,12 +1,12 @@
 -- Blocks that grow by a row.
-use Rattle.std.proofs.Common.{◌≡◌, ◌∙◌, sym, ap, refl, arith, rules, ℕ, ◌+◌, ◌-◌, ◌*◌, ◌/◌, ◌%◌, ◌<◌, ◌≤◌, List, ◌++◌, length, get_or, drop, take, subst, leb, true, false}
+use Rattle.std.proofs.Common.{◌≡◌, ◌∙◌, ap, arith, rules, ℕ, ◌+◌, ◌-◌, ◌*◌, ◌/◌, ◌%◌, ◌<◌, ◌≤◌, List, ◌++◌, length, get_or, drop, take, subst, leb, true, false}
 use Rattle.std.proofs.lemmas.Nat.{div-mul-add, mod-mul-add}
 use Rattle.std.proofs.lemmas.List.{places, get_or-drop, get_or-take}
 use Rattle.std.proofs.lemmas.Slice.{between_to_end}
 use Rattle.std.proofs.lemmas.Bool.Decides.{leb_tells}
 use mathlib.Core.Logic.{◌⊎◌, inl, inr}
 use borrow.Rule.Slice.PartMut.{put_mid}
-use Rattle.sal_inter.specs.Taps.{weighed, weighed_at, filtered, placed}
+use Rattle.sal_inter.specs.Taps.{weighed, weighed_at}
 use Rattle.sal_inter.specs.declared.taps.Taps.{Taps}
 
 -- the first n samples are those of their rows and columns

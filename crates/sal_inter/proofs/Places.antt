@@ -3,7 +3,7 @@ use Rattle.std.proofs.Common.{◌≡◌, ◌∙◌, sym, ap, refl, arith, ℕ, s
 use Rattle.std.specs.Prelude.{unsigned_abs}
 use Rattle.std.proofs.lemmas.List.{get_or-drop}
 use Rattle.std.proofs.lemmas.Slice.{between_to_end}
-use Rattle.std.proofs.lemmas.Int.{ints, to_z-of_z}
+use Rattle.std.proofs.lemmas.Int.{ints}
 use Rattle.std.proofs.lemmas.Nat.{row_fits}
 use Rattle.sal_base.specs.declared.picture.Plane.{Plane}
 use Rattle.sal_inter.specs.Inter.{place_in, sample, HasSamples, whole_of, fraction_of}
@@ -97,9 +97,9 @@ sample_inside p samples l t r c x y is ex ey column row =
     let across : l + c ≡ place_in p.width (pos (l + c)) = omega arith in
     let places : (t * p.width + l) + (r * p.width + c) ≡ (t + r) * p.width + (l + c) = omega arith in
     let here : get_or samples ((t * p.width + l) + (r * p.width + c)) 0 ≡ get_or p.samples (place_in p.height (pos (t + r)) * p.width + place_in p.width (pos (l + c))) 0 =
-        ap (λ (xs : List ℕ). get_or xs ((t * p.width + l) + (r * p.width + c)) 0) is
-        ∙ (ap (λ (i : ℕ). get_or p.samples i 0) places
-        ∙ (ap (λ (i : ℕ). get_or p.samples (i * p.width + (l + c)) 0) down ∙ ap (λ (i : ℕ). get_or p.samples (place_in p.height (pos (t + r)) * p.width + i) 0) across)) in
+    ap (λ (xs : List ℕ). get_or xs ((t * p.width + l) + (r * p.width + c)) 0) is
+    ∙ (ap (λ (i : ℕ). get_or p.samples i 0) places
+    ∙ (ap (λ (i : ℕ). get_or p.samples (i * p.width + (l + c)) 0) down ∙ ap (λ (i : ℕ). get_or p.samples (place_in p.height (pos (t + r)) * p.width + i) 0) across)) in
     here ∙ (ap (λ (z : ℤ). sample p (z +ℤ pos c) (pos t +ℤ pos r)) (sym ex) ∙ ap (λ (z : ℤ). sample p (x +ℤ pos c) (z +ℤ pos r)) (sym ey))
 
 -- of a slice from there on

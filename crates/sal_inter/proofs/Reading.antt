@@ -1,5 +1,5 @@
 -- Blocks out of windows are the blocks of the definition.
-use Rattle.std.proofs.Common.{◌≡◌, ◌∙◌, sym, ap, refl, arith, ℕ, suc, zero, ◌+◌, ◌*◌, ◌/◌, ◌%◌, ◌<◌, ◌≤◌, Bool, ℤ, pos, ◌+ℤ◌, ◌-ℤ◌, List, get_or, mul_comm}
+use Rattle.std.proofs.Common.{◌≡◌, ◌∙◌, sym, ap, refl, arith, ℕ, suc, zero, ◌+◌, ◌*◌, ◌/◌, ◌%◌, ◌<◌, ◌≤◌, Bool, ℤ, pos, ◌+ℤ◌, ◌-ℤ◌, List, mul_comm}
 use Rattle.std.proofs.lemmas.Int.{ints}
 use Rattle.std.proofs.lemmas.Nat.{mod_below, div_below, mul-add-lt}
 use Rattle.sal_base.specs.Samples.{IsBlockOf}
@@ -23,8 +23,8 @@ window_taken p across down samples stride width height k ra rd window some lt =
     let column : k % width < width = mod_below k width some in
     let row : k / width < height = div_below k width height some (let turned : width * height ≡ height * width = mul_comm width height in omega arith) in
     taken_same down.fraction _ _ (k / width)
-      (λ (r : ℕ) (hr : r ≤ k / width + reach down.fraction).
-        taken_same across.fraction _ _ (k % width) (λ (c : ℕ) (hc : c ≤ k % width + reach across.fraction). window r c (omega (arith, rd.count)) (omega (arith, ra.count))))
+    (λ (r : ℕ) (hr : r ≤ k / width + reach down.fraction).
+    taken_same across.fraction _ _ (k % width) (λ (c : ℕ) (hc : c ≤ k % width + reach across.fraction). window r c (omega (arith, rd.count)) (omega (arith, ra.count))))
 
 -- what was gathered is the window
 pub gathered_window : (p : Plane) (across down : Span) (samples : List ℕ) (x y : ℤ) → x ≡ across.start → y ≡ down.start
@@ -58,7 +58,7 @@ window_inter p v eighths x y width height row column across down bytes sa sd =
     let left : ℤ = x +ℤ whole_of eighths v.column in
     let top : ℤ = y +ℤ whole_of eighths v.row in
     let rows = taken_same down.fraction _ (λ (r : ℕ). f (left +ℤ pos column) (down.start +ℤ pos r)) row
-      (λ (r : ℕ) (h : r ≤ row + reach down.fraction). taken_interpolated across.fraction (λ (c : ℤ). sample p c (down.start +ℤ pos r)) left across.start column (λ (w : ℤ). byte (bytes _)) sa.start) in
+    (λ (r : ℕ) (h : r ≤ row + reach down.fraction). taken_interpolated across.fraction (λ (c : ℤ). sample p c (down.start +ℤ pos r)) left across.start column (λ (w : ℤ). byte (bytes _)) sa.start) in
     let both = taken_interpolated down.fraction (f (left +ℤ pos column)) top down.start row (λ (w : ℤ). interpolated_small _ _ _) sd.start in
     let column_at : left +ℤ pos column ≡ (x +ℤ pos column) +ℤ whole_of eighths v.column = omega (arith, ints) in
     let row_at : top +ℤ pos row ≡ (y +ℤ pos row) +ℤ whole_of eighths v.row = omega (arith, ints) in

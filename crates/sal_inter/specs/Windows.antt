@@ -3,7 +3,7 @@ use Rattle.std.specs.Prelude.{◌≡◌, ℕ, suc, zero, ◌+◌, ◌*◌, ◌^�
 use Rattle.sal_inter.specs.Inter.{six_sum, place_in, sample, whole_of, fraction_of}
 use Rattle.sal_base.specs.declared.picture.Plane.{Plane}
 use Rattle.sal_inter.specs.declared.span.Span.{Span}
-use Rattle.sal_inter.specs.Taps.{weighed, filtered, placed}
+use Rattle.sal_inter.specs.Taps.{weighed, filtered}
 use Rattle.sal_inter.specs.declared.taps.Taps.{Taps}
 
 -- how many more samples than a block has are read along a side: five by a filter, none where there is no fraction

@@ -93,7 +93,14 @@ fn predict_gathered(
 {
     let mut window = [0u8; 441];
     let window = &mut window[..across.count * down.count];
-    gather(plane, across.start, down.start, across.count, down.count, window);
+    gather(
+        plane,
+        across.start,
+        down.start,
+        across.count,
+        down.count,
+        window,
+    );
     interpolate(
         window,
         across.count,

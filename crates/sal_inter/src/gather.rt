@@ -47,7 +47,14 @@ fn gather_row(samples: &[u8], left: i64, out: &mut [u8])
 }
 
 /// The samples of a plane from a column and a row on, outside it the nearest at its edge.
-pub(crate) fn gather(plane: &Plane, left: i64, top: i64, width: usize, height: usize, out: &mut [u8])
+pub(crate) fn gather(
+    plane: &Plane,
+    left: i64,
+    top: i64,
+    width: usize,
+    height: usize,
+    out: &mut [u8],
+)
     requires plane { HasSamples plane.now }
     requires left { IsPlace left }
     requires top { IsPlace top }
@@ -60,11 +67,10 @@ pub(crate) fn gather(plane: &Plane, left: i64, top: i64, width: usize, height: u
 {
     let (samples, side) = (samples_of(plane), plane.width as usize);
     for row in 0..height {
-        let (at, from) = (row * width, side * place_in(plane.height as usize, top + row as i64));
-        gather_row(
-            &samples[from..from + side],
-            left,
-            &mut out[at..at + width],
+        let (at, from) = (
+            row * width,
+            side * place_in(plane.height as usize, top + row as i64),
         );
+        gather_row(&samples[from..from + side], left, &mut out[at..at + width]);
     }
 }

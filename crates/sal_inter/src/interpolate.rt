@@ -57,6 +57,14 @@ pub(crate) fn interpolate(
         (0, 0) => copy_rows(samples, stride, width, height, out),
         (0, _) => filter_rows(taps_of(down), samples, stride, stride, width, height, out),
         (_, 0) => filter_rows(taps_of(across), samples, stride, 1, width, height, out),
-        _ => filter_both(taps_of(across), taps_of(down), samples, stride, width, height, out),
+        _ => filter_both(
+            taps_of(across),
+            taps_of(down),
+            samples,
+            stride,
+            width,
+            height,
+            out,
+        ),
     }
 }

@@ -15,6 +15,9 @@ mod taps;
 
 pub use block::predict_block;
 
+#[cfg(test)]
+mod tests;
+
 /// The taps of each of the eight filters sum to 128, so that where all samples are alike they stay as they are.
 pub fn filters_keep_the_level()
     ensures { map gain six_taps_of ≡ replicate 8 (pos 128) }

@@ -1,6 +1,6 @@
 //! What a block reads of a reference along one side (RFC 6386, sections 5 and 18.3).
 
-ghost use Rattle.std.specs.Prelude.{◌≡◌, pos, neg_ℤ, ◌≤ℤ◌, ◌+◌, ◌<◌, ◌≤◌,  ◌↔◌, IsTrue};
+ghost use Rattle.std.specs.Prelude.{◌≡◌, pos, neg_ℤ, ◌≤ℤ◌, ◌+◌, ◌<◌, ◌≤◌, ◌↔◌, IsTrue};
 ghost use Rattle.sal_inter.specs.Inter.{whole_of, fraction_of};
 ghost use Rattle.sal_inter.specs.Windows.{IsPlace, IsSpan, IsInside};
 
@@ -45,9 +45,17 @@ impl Span {
         let fraction = fraction_of(eighths, component);
         let start = place as i64 + whole_of(eighths, component);
         if fraction == 0 {
-            Span { start, count: side, fraction }
+            Span {
+                start,
+                count: side,
+                fraction,
+            }
         } else {
-            Span { start: start - 2, count: side + 5, fraction }
+            Span {
+                start: start - 2,
+                count: side + 5,
+                fraction,
+            }
         }
     }
 

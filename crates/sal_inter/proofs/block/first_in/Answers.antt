@@ -1,4 +1,4 @@
-use Rattle.std.proofs.Common.{◌≡◌, ℕ, arith, ap, ◌∙◌, ◌*◌, ◌+◌, ◌≤◌, ◌<◌, pos, ◌+ℤ◌, ◌≤ℤ◌, refl}
+use Rattle.std.proofs.Common.{◌≡◌, arith, pos, refl}
 use Rattle.std.proofs.lemmas.Int.{ints}
 use Rattle.sal_inter.proofs.Places.{as_index, index_of, window_starts}
 use Rattle.sal_inter.proofs.block.first_in.Goals as goal

@@ -1,4 +1,4 @@
-use Rattle.std.proofs.Common.{◌≡◌, ◌∙◌, rules, ℕ, ◌/◌, ◌%◌, ◌*◌, arith}
+use Rattle.std.proofs.Common.{◌∙◌, rules, ◌/◌, ◌%◌, arith}
 use mir.Syntax.{w16, w32}
 use mir.Val.{SFits}
 use Rattle.std.proofs.lemmas.Int.{to_z-of_z}

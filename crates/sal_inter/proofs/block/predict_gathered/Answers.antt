@@ -15,4 +15,4 @@ returns-clause-samples c = λ k h.
     let a = c.args in
     c.interpolate.ensures k h
     ∙ window_taken a.plane.now a.across a.down c.gather.new.out a.across.count a.width a.height k c.requires.across c.requires.down
-      (gathered_window a.plane.now a.across a.down c.gather.new.out _ _ (kept a.across.start c.requires.across.start) (kept a.down.start c.requires.down.start) c.gather.ensures.samples) c.requires.width.0 h
+    (gathered_window a.plane.now a.across a.down c.gather.new.out _ _ (kept a.across.start c.requires.across.start) (kept a.down.start c.requires.down.start) c.gather.ensures.samples) c.requires.width.0 h

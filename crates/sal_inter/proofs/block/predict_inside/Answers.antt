@@ -1,4 +1,4 @@
-use Rattle.std.proofs.Common.{◌≡◌, ◌∙◌}
+use Rattle.std.proofs.Common.{◌∙◌}
 use Rattle.sal_inter.proofs.Reading.{window_taken}
 use Rattle.sal_inter.proofs.block.predict_inside.Goals as goal
 

@@ -1,4 +1,4 @@
-use Rattle.std.proofs.Common.{◌≡◌, ℕ, arith, length, ap, ◌∙◌, List, ◌*◌, ◌+◌, ◌≤◌, ◌<◌, pos, ◌+ℤ◌, ◌≤ℤ◌}
+use Rattle.std.proofs.Common.{◌≡◌, ℕ, arith, length, ap, ◌∙◌, List, ◌*◌, ◌≤◌, ◌<◌}
 use Rattle.std.proofs.lemmas.Int.{ints}
 use Rattle.sal_inter.proofs.Places.{window_fits, rest_inside, rest_long}
 use Rattle.sal_inter.proofs.block.window_in.Goals as goal
@@ -17,4 +17,4 @@ returns-clause-window c = λ (r k : ℕ) (hr : r < c.args.down.count) (hk : k < 
     let a = c.args in
     let first = c.first_in.ensures.first in
     rest_inside a.plane.now c.samples_of.result.now c.first_in.result first.column first.row r k a.across.start a.down.start c.samples_of.ensures.samples first.at_is first.across_is first.down_is
-      (omega (arith, ints, first.across_is)) (omega (arith, ints, first.down_is))
+    (omega (arith, ints, first.across_is)) (omega (arith, ints, first.down_is))

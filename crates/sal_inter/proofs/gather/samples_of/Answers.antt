@@ -1,4 +1,4 @@
-use Rattle.std.proofs.Common.{◌≡◌, ◌∙◌, ◌<◌, ℕ, List, subst, get_or}
+use Rattle.std.proofs.Common.{◌∙◌, ◌<◌, ℕ, List, subst, get_or}
 use Rattle.sal_inter.proofs.gather.samples_of.Goals as goal
 
 pub returns-clause-bytes : goal.returns-clause-bytes

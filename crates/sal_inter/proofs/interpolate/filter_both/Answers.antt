@@ -1,4 +1,4 @@
-use Rattle.std.proofs.Common.{◌≡◌, ◌∙◌, ◌*◌, ◌<◌, ℕ, arith}
+use Rattle.std.proofs.Common.{◌∙◌, ◌*◌, ◌<◌, ℕ, arith}
 use Rattle.sal_inter.specs.Taps.{filtered}
 use Rattle.sal_inter.proofs.Between.{columns_weighed}
 use Rattle.sal_inter.proofs.interpolate.filter_both.Goals as goal

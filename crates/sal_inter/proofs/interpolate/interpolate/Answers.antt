@@ -1,4 +1,4 @@
-use Rattle.std.proofs.Common.{◌≡◌, ◌∙◌, ◌/◌, ◌%◌}
+use Rattle.std.proofs.Common.{◌∙◌, ◌/◌, ◌%◌}
 use Rattle.sal_inter.proofs.Between.{both_of}
 use Rattle.sal_inter.proofs.interpolate.interpolate.Goals as goal
 
