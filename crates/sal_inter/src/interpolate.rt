@@ -33,9 +33,9 @@ fn filter_both(
     filter_row(down, rows, width, out);
 }
 
-/// A block out of the window that it reads, by the fractions of its vector.
+// A block by the fractions of its vector.
 #[inline(always)]
-pub(crate) fn interpolate(
+fn by_fractions(
     samples: &[u8],
     stride: usize,
     across: usize,
@@ -66,5 +66,33 @@ pub(crate) fn interpolate(
             height,
             out,
         ),
+    }
+}
+
+/// A block out of the window that it reads, by the fractions of its vector. The sides that blocks have stand as numbers, so
+/// that the loops over a row are of a fixed length.
+pub(crate) fn interpolate(
+    samples: &[u8],
+    stride: usize,
+    across: usize,
+    down: usize,
+    width: usize,
+    height: usize,
+    out: &mut [u8],
+)
+    requires stride { stride < 65536 }
+    requires across { across < 8 }
+    requires down { down < 8 }
+    requires width { (1 ≤ width) × (width ≤ 16) }
+    requires height { height ≤ 16 }
+    requires samples { (height + reach down) * stride + width + reach across ≤ length samples.now + stride }
+    requires out { length out.old ≡ width * height }
+    ensures { IsBlockOf width (width * height) out.new (taken_both across down (placed samples.now stride)) }
+{
+    match width {
+        16 => by_fractions(samples, stride, across, down, 16, height, out),
+        8 => by_fractions(samples, stride, across, down, 8, height, out),
+        4 => by_fractions(samples, stride, across, down, 4, height, out),
+        _ => by_fractions(samples, stride, across, down, width, height, out),
     }
 }

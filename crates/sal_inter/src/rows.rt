@@ -24,7 +24,8 @@ pub(crate) fn copy_rows(samples: &[u8], stride: usize, width: usize, height: usi
     }
 }
 
-/// A block of samples through a filter, each with the five that follow it a step apart.
+/// A block of samples through a filter, each with the five that follow it a step apart. A row is filtered by itself and then
+/// copied, since it could be that `out` and `samples` share memory as far as the compiler knows.
 #[inline(always)]
 #[tactic(auto, using(std::proofs::lemmas::Nat::row_fits))]
 pub(crate) fn filter_rows(
@@ -46,11 +47,9 @@ pub(crate) fn filter_rows(
 {
     for row in 0..height {
         let at = row * width;
-        filter_row(
-            taps,
-            &samples[row * stride..],
-            step,
-            &mut out[at..at + width],
-        );
+        let mut line = [0u8; 16];
+        let line = &mut line[..width];
+        filter_row(taps, &samples[row * stride..], step, line);
+        out[at..at + width].copy_from_slice(line);
     }
 }

@@ -1,6 +1,6 @@
 use Rattle.std.proofs.Common.{◌∙◌, ◌/◌, ◌%◌}
 use Rattle.sal_inter.proofs.Between.{both_of}
-use Rattle.sal_inter.proofs.interpolate.interpolate.Goals as goal
+use Rattle.sal_inter.proofs.interpolate.by_fractions.Goals as goal
 
 pub returns-in_default : goal.returns-in_default
 returns-in_default c = λ k h.
