@@ -43,6 +43,10 @@ AreBytes samples = (i : ℕ) → slice_index samples i < 256
 abbrev pub nearest : List ℕ → ℤ → ℕ
 nearest samples column = slice_index samples (place_in (length samples) column)
 
+-- these are the samples of a row from a column on
+abbrev pub IsNearestRow : List ℕ → ℤ → List ℕ → Type 0
+IsNearestRow samples left out = (k : ℕ) → k < length out → slice_index out k ≡ nearest samples (left +ℤ pos k)
+
 -- what a block of a side reads along it: its samples, and with a fraction five more
 pub record Reads (side : ℕ) (s : Span) : Type 0 where
   pub fraction : s.fraction < 8

@@ -1,9 +1,9 @@
 //! Windows that reach past the edge of a plane (RFC 6386, section 18.3).
 
-ghost use Rattle.std.specs.Prelude.{◌≡◌, ℕ, ◌+◌, ◌*◌, ◌<◌, ◌≤◌, pos, ◌+ℤ◌, length, slice_index};
+ghost use Rattle.std.specs.Prelude.{◌≡◌, ℕ, ◌+◌, ◌*◌, ◌<◌, ◌≤◌, pos, ◌+ℤ◌, ◌≤ℤ◌, length};
 ghost use Rattle.sal_base.specs.Samples.{IsBlockOf};
 ghost use Rattle.sal_inter.specs.Inter.{place_in, sample, HasSamples};
-ghost use Rattle.sal_inter.specs.Windows.{IsPlace, AreBytes, nearest};
+ghost use Rattle.sal_inter.specs.Windows.{IsPlace, AreBytes, IsNearestRow};
 
 use sal_base::Plane;
 
@@ -34,15 +34,41 @@ fn place_in(side: usize, place: i64) -> usize
     place.clamp(0, side as i64 - 1) as usize
 }
 
-// Samples of a row from a column on.
+// Samples of a row from a column on, past its ends the nearest.
+fn nearest_row(samples: &[u8], left: i64, out: &mut [u8])
+    requires samples { (1 ≤ length samples.now) × (length samples.now < 65536) }
+    requires left { IsPlace left }
+    requires out { length out.old ≤ 21 }
+    ensures { IsNearestRow samples.now left out.new }
+{
+    for (k, sample) in out.iter_mut().enumerate() {
+        *sample = samples[place_in(samples.len(), left + k as i64)];
+    }
+}
+
+// The same of a row that has them all.
+fn copy_row(samples: &[u8], left: i64, out: &mut [u8])
+    requires samples { length samples.now < 65536 }
+    requires left { IsPlace left }
+    requires out { length out.old ≤ 21 }
+    requires inside { (pos 0 ≤ℤ left) × ((left +ℤ pos (length out.old)) ≤ℤ pos (length samples.now)) }
+    ensures { IsNearestRow samples.now left out.new }
+{
+    let left = left as usize;
+    out.copy_from_slice(&samples[left..left + out.len()]);
+}
+
+// The same of any row.
 fn gather_row(samples: &[u8], left: i64, out: &mut [u8])
     requires samples { (1 ≤ length samples.now) × (length samples.now < 65536) }
     requires left { IsPlace left }
     requires out { length out.old ≤ 21 }
-    ensures { (k : ℕ) → k < length out.new → slice_index out.new k ≡ nearest samples.now (left +ℤ pos k) }
+    ensures { IsNearestRow samples.now left out.new }
 {
-    for (k, sample) in out.iter_mut().enumerate() {
-        *sample = samples[place_in(samples.len(), left + k as i64)];
+    if left >= 0 && left + out.len() as i64 <= samples.len() as i64 {
+        copy_row(samples, left, out);
+    } else {
+        nearest_row(samples, left, out);
     }
 }
 

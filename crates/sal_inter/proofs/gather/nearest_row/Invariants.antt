@@ -1,6 +1,6 @@
 use Rattle.std.proofs.Common.{◌≡◌, ℕ, ◌<◌, get_or, ◌+ℤ◌, pos}
 use Rattle.sal_inter.specs.Windows.{nearest}
-use Rattle.sal_inter.proofs.gather.gather_row.Given as goal
+use Rattle.sal_inter.proofs.gather.nearest_row.Given as goal
 
 -- the samples so far are those of their places
 abbrev pub invariant-loop-k : goal.invariant-loop-k
