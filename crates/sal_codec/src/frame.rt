@@ -6,11 +6,11 @@ ghost use Rattle.sal_codec.specs.Coding.{DecodesAs};
 ghost use Rattle.sal_codec.specs.Raw.{IsRaw};
 ghost use Rattle.sal_codec.specs.Plain.{pair, sides_of, key_bytes, differences, sums, side_fault, count_fault, sized, key_of, inter_of, raw_of_frame};
 
-use crate::difference::{add, subtract};
+use crate::difference::{push_differences, push_sums};
 use crate::raw::{RawPicture, sample_count};
 use byteorder::{BigEndian, ByteOrder};
 use sal_base::{Bytes, DecodeFault, Fault, MAX_HEIGHT, MAX_WIDTH, Memory};
-use std::alloc::Global;
+use std::alloc::{AllocError, Global};
 
 // The first byte of a key frame, and of an inter frame.
 const KEY: u8 = 0;
@@ -32,11 +32,11 @@ pub(crate) fn sides_bytes(width: u16, height: u16) -> [u8; 4]
 pub(crate) fn key_bytes(alloc: Global, picture: &RawPicture) -> Result<Bytes, Memory>
     ensures { IfOk result (λ b. b ≡ key_bytes picture.now) }
 {
-    let mut bytes = Vec::new(alloc);
-    bytes.reserve(5)?;
+    let samples = picture.samples.as_slice();
+    let mut bytes = Vec::with_capacity(alloc, 5 + samples.len())?;
     bytes.push(KEY)?;
     bytes.extend_from_slice(&sides_bytes(picture.width, picture.height))?;
-    bytes.extend_from_slice(picture.samples.as_slice())?;
+    bytes.extend_from_slice(samples)?;
     Ok(Bytes::from_vec(bytes))
 }
 
@@ -46,10 +46,9 @@ pub(crate) fn inter_bytes(alloc: Global, samples: &[u8], source: &[u8]) -> Resul
     ensures bytes { IfOk result (λ b. b ≡ 1 ∷ differences samples.now source.now) }
     ensures again { OnOk result (sums (differences samples.now source.now) source.now ≡ samples.now) }
 {
-    let mut bytes = Vec::new(alloc);
+    let mut bytes = Vec::with_capacity(alloc, 1 + samples.len())?;
     bytes.push(INTER)?;
-    bytes.extend_from_slice(samples)?;
-    subtract(&mut bytes[1..], source);
+    push_differences(&mut bytes, samples, source)?;
     Ok(Bytes::from_vec(bytes))
 }
 
@@ -113,6 +112,17 @@ fn read_key(alloc: Global, rest: &[u8]) -> Result<RawPicture, DecodeFault>
     sized(alloc, width, height, &rest[4..])
 }
 
+/// The samples that have these differences from a source.
+fn moved(alloc: Global, differences: &[u8], source: &[u8]) -> Result<Bytes, AllocError>
+    requires { length differences.now ≡ length source.now }
+    ensures samples { IfOk result (λ b. b ≡ sums differences.now source.now) }
+    ensures long { IfOk result (λ b. length b ≡ length source.now) }
+{
+    let mut samples = Vec::with_capacity(alloc, differences.len())?;
+    push_sums(&mut samples, differences, source)?;
+    Ok(Bytes::from_vec(samples))
+}
+
 /// What an inter frame has after its first byte.
 #[tactic(auto, unfolding(crate::specs::Plain::inter_of))]
 fn read_inter(
@@ -130,8 +140,7 @@ fn read_inter(
     if let Some(fault) = count_fault(source.width, source.height, rest.len()) {
         return Err(DecodeFault::Bad(fault));
     }
-    let mut samples = Bytes::from_slice(alloc, rest).map_err(|_| DecodeFault::Memory)?;
-    add(samples.as_mut_slice(), source.samples.as_slice());
+    let samples = moved(alloc, rest, source.samples.as_slice()).map_err(|_| DecodeFault::Memory)?;
     Ok(RawPicture {
         width: source.width,
         height: source.height,

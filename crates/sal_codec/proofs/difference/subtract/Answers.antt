@@ -1,4 +1,4 @@
-use Rattle.std.proofs.Common.{◌<◌, ◌≤◌, ◌≡◌, length, arith}
+use Rattle.std.proofs.Common.{arith}
 use Rattle.sal_codec.specs.Plain.{less, differences}
 use Rattle.sal_codec.proofs.Samplewise.{done_more, done_all}
 use Rattle.sal_codec.proofs.difference.subtract.Goals as goal
