@@ -34,7 +34,7 @@ either_some : {X : Type 0} (a b : Option X) (x : X) → or_else a b ≡ Some x �
 either_some None b x h = inr h
 either_some (Some y) b x h = inl h
 
-abbrev ran_of : {S : Type 0} → Work S → Bool → Ran S
+abbrev pub ran_of : {S : Type 0} → Work S → Bool → Ran S
 ran_of w ran = record { work = w; ran = ran }
 
 module _ {S : Type 0} (codec : Coding S) where
@@ -147,11 +147,11 @@ none_else None b h = (refl, h)
 none_else (Some x) b h = absurd (cc)
 
 -- a job with the size of its report, where that is in
-abbrev cand : Job → (Bool → Size) → Option Bool → Option Candidate
+abbrev pub cand : Job → (Bool → Size) → Option Bool → Option Candidate
 cand job z o = option_map (λ ran. (job, z ran)) o
 
 module _ {S : Type 0} (codec : Coding S) where
-  fits_same : (budget : ℕ) (job : Job) (z : Size) → fits budget (job, z) ≡ fits_in budget z
+  pub fits_same : (budget : ℕ) (job : Job) (z : Size) → fits budget (job, z) ≡ fits_in budget z
   fits_same budget job (Datagrams n) = refl
   fits_same budget job (TooLarge first) = refl
   fits_same budget job NoMemory = refl
@@ -182,16 +182,16 @@ module _ {S : Type 0} (codec : Coding S) where
   sizes_one j z (Some r) = refl
 
 module _ {S : Type 0} (codec : Coding S) (past : Past) where
-  abbrev size_by : Job → Bool → Size
+  abbrev pub size_by : Job → Bool → Size
   size_by job ran = size_of (encoded codec (work_in codec (pictures past) (choices past) job)) ran
 
-  abbrev cands_of : Bool → List Job → List Candidate
+  abbrev pub cands_of : Bool → List Job → List Candidate
   cands_of b js = filter_map (λ j. cand j (size_by j) (reported past j.id)) (eligible b js)
 
-  abbrev seat_of : Job → Seat (Ran S)
+  abbrev pub seat_of : Job → Seat (Ran S)
   seat_of job = seat_in codec (summary past) job
 
-  size_seat : (job : Job) → size_in codec (seat_of job) ≡ option_map (size_by job) (reported past job.id)
+  pub size_seat : (job : Job) → size_in codec (seat_of job) ≡ option_map (size_by job) (reported past job.id)
   size_seat job = go (reported past job.id)
     where
       go : (o : Option Bool) → option_map (λ (r : Ran S). size_of (encoded codec r.work) r.ran) (option_map (λ ran. ran_of (work_in codec (pictures past) (choices past) job) ran) o) ≡ option_map (size_by job) o
@@ -201,10 +201,10 @@ module _ {S : Type 0} (codec : Coding S) (past : Past) where
   unfit : (budget : ℕ) (job : Job) → fitting_in codec budget (Some (seat_of job)) ≡ None → cond (has_fit budget (option_map (size_by job) (reported past job.id))) (Some (seat_of job)) None ≡ None
   unfit budget job h = subst (λ x. cond (has_fit budget x) (Some (seat_of job)) None ≡ None) (size_seat job) h
 
-  abbrev opened_as : Bool → Bool → Job → Job → (ℕ → Job) → ℕ → ℕ → Open (Ran S)
+  abbrev pub opened_as : Bool → Bool → Job → Job → (ℕ → Job) → ℕ → ℕ → Open (Ran S)
   opened_as spared t c p fine m n = record { from_tip = t; coarse = seat_of c; spare = spare_in codec spared (summary past) p; fine = seat_of (fine (cond spared m n)) }
 
-  abbrev planned_as : Bool → Job → Job → (ℕ → Job) → ℕ → ℕ → List Job
+  abbrev pub planned_as : Bool → Job → Job → (ℕ → Job) → ℕ → ℕ → List Job
   planned_as spared c p fine m n = cond spared (c ∷ p ∷ fine m ∷ []) (c ∷ fine n ∷ [])
 
   none_planned : (b spared t : Bool) (c p : Job) (fine : ℕ → Job) (m n budget : ℕ) → is_spare c ≡ false → is_coarse c ≡ true → is_fine c ≡ false → is_spare p ≡ true → is_coarse p ≡ false → is_fine p ≡ false → ((k : ℕ) → is_spare (fine k) ≡ false) → ((k : ℕ) → is_coarse (fine k) ≡ false) → ((k : ℕ) → is_fine (fine k) ≡ true) → found_in codec b budget (opened_as spared t c p fine m n) ≡ None → find (fits budget) (cands_of b (planned_as spared c p fine m n)) ≡ None
@@ -244,7 +244,7 @@ module _ {S : Type 0} (codec : Coding S) where
       let newest : sent_at_in m.links ≡ sent_at_of (choices past) = ap sent_at_in k.links_are ∙ newest_link (acknowledged past) (choices past) chained in
       rw (k.average_is, k.sent_is, k.heard_is, k.heard_at_is, newest) refl
 
-  spared_then : (a l b sp : Bool) (x y z w : Job) → b ≡ (a && l && list_any is_spare (cond sp (x ∷ y ∷ z ∷ []) (x ∷ w ∷ []))) → is_spare x ≡ false → is_spare w ≡ false → b ≡ true → sp ≡ true
+  pub spared_then : (a l b sp : Bool) (x y z w : Job) → b ≡ (a && l && list_any is_spare (cond sp (x ∷ y ∷ z ∷ []) (x ∷ w ∷ []))) → is_spare x ≡ false → is_spare w ≡ false → b ≡ true → sp ≡ true
   spared_then a l b true x y z w e p q t = refl
   spared_then true true b false x y z w e p q t = absurd (let any : list_any is_spare (x ∷ w ∷ []) ≡ false = rw (p, q) refl in let r : true ≡ false = sym t ∙ (e ∙ any) in cc)
   spared_then true false b false x y z w e p q t = absurd (let r : true ≡ false = sym t ∙ e in cc)

@@ -17,3 +17,8 @@ pub mod Sized
 pub mod Bursts
 pub mod Picks
 pub mod Choosings
+pub mod ChosenAcked
+pub mod ChosenFound
+pub mod ChosenKeeps
+pub mod ChosenSays
+pub mod ChosenSent

@@ -1,6 +1,6 @@
 //! A frame as datagrams.
 
-ghost use Rattle.std.specs.Prelude.{◌≡◌, ◌<◌, ◌≤◌, ◌+◌, ◌^◌, IfOk};
+ghost use Rattle.std.specs.Prelude.{◌≡◌, ◌<◌, ◌≤◌, ◌+◌, ◌^◌, length, IfOk};
 ghost use Rattle.sal_wire.specs.Spelling.{text};
 ghost use Rattle.sal_wire.specs.Pieces.{count_of, piece};
 ghost use Rattle.sal_sender.specs.Cutting.{IsCut, part_of, parts_of};
@@ -28,6 +28,13 @@ pub struct Cut<'a> {
     /// Microseconds since the choice before.
     pub pause: u32,
     pub bytes: &'a [u8],
+}
+
+/// A name has sixteen bytes.
+pub(crate) fn has_sixteen(name: Name)
+    ensures { length name.0 ≡ 16 }
+{
+    let _bytes = name.0;
 }
 
 /// The piece of a frame with this index.

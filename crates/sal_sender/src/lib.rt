@@ -9,6 +9,7 @@ mod job;
 mod laws;
 mod link;
 mod lists;
+mod out;
 mod outcome;
 mod pick;
 mod plan;

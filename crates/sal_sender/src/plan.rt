@@ -1,10 +1,33 @@
 //! The jobs of the next picture.
 
 ghost use Rattle.std.specs.Prelude.{◌≡◌, ◌+◌, ◌≤◌, ◌-◌, ◌^◌, ◌<◌};
+ghost use Rattle.std.specs.Prelude.{if◌then◌else◌};
+ghost use Rattle.sal_sender.specs.Jobs.{kind_of};
 ghost use Rattle.sal_sender.specs.Planned.{fine_id, count_of, coarse_q, seats_of};
 
 use crate::choice::JobRole;
 use crate::seat::{Open, Seat};
+use sal_base::Kind;
+
+/// The number to go on from.
+pub(crate) fn onward_of(is_full: bool, is_lost: bool, safe: u32, tip: u32) -> u32
+    ensures { result ≡ (if is_full then 0 else if is_lost then safe else tip) }
+{
+    if is_full {
+        0
+    } else if is_lost {
+        safe
+    } else {
+        tip
+    }
+}
+
+/// How a picture is encoded from the state of this number.
+pub(crate) fn kind_of(source: u32) -> Kind
+    ensures { result ≡ kind_of source }
+{
+    if source == 0 { Kind::Key } else { Kind::Inter }
+}
 
 /// What decides the jobs of a picture.
 #[derive(Clone, Copy, Debug)]

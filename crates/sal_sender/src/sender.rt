@@ -9,7 +9,7 @@ ghost use Rattle.sal_sender.specs.OneThread.{Session};
 ghost use Rattle.sal_sender.specs.Promises.{Answers, Answered};
 ghost use Rattle.sal_sender.specs.Answers.{report_answer};
 ghost use Rattle.sal_sender.specs.declared.choice.JobRole.TheVariants.{Spare};
-ghost use Rattle.sal_sender.specs.declared.answers.Reported.TheVariants.{Kept, Late, Stranger};
+ghost use Rattle.sal_sender.specs.declared.answers.Reported.TheVariants.{Stranger};
 ghost use Rattle.sal_sender.specs.declared.answers.Ignore.{Ignore as IgnoreData};
 ghost use Rattle.sal_sender.specs.declared.answers.HeardAck.TheVariants.{Ignored};
 ghost use Rattle.sal_sender.specs.Answers.{starts};
@@ -20,32 +20,31 @@ ghost use Rattle.std.specs.Arc.{arc_value};
 ghost use Rattle.sal_sender.specs.Planned.{plan_of, count_of, coarse_q, work_from, queue_of, after_start};
 ghost use Rattle.sal_sender.specs.Machine.{Machine, IsHead, IsOwn, IsSeat, IsSized, flag};
 ghost use Rattle.sal_sender.specs.Stands.{Stands, IsOwnWork};
-ghost use Rattle.sal_budget.specs.Budget.{least_of};
-ghost use Rattle.sal_sender.specs.Jobs.{kind_of};
 ghost use Rattle.sal_sender.specs.Sending.{lost_of, budget_in, floor_in, choice_in, pause_in, with_choice, IsNext, IsTaken, after_choice, after_nothing};
 ghost use Rattle.sal_sender.specs.Picking.{has_fit, size_in};
 ghost use Rattle.sal_sender.specs.Answers.{closes};
 ghost use Rattle.sal_sender.specs.declared.answers.Chosen.TheVariants.{Sent};
 
-use crate::answers::{Chosen, HeardAck, Ignore, Next, Reported};
+use crate::answers::{Chosen, HeardAck, Ignore, Next, Reported, known};
 use crate::choice::{Choice, JobRole};
-use crate::cut::{Cut, burst};
+use crate::cut::{Cut, burst, has_sixteen};
 use crate::hearing::{first_wrong, newly_named};
 use crate::job::Job;
 use crate::link::{Link, hear, lost_in, pause, safe_in, sent_at};
+use crate::out::{grow, is_out, mark};
 use crate::outcome::Outcome;
 use crate::pick::{found, sizes};
-use crate::plan::Plan;
+use crate::plan::{Plan, kind_of, onward_of};
 use crate::report::Report;
 use crate::seat::{Open, Queue, Seat, keep};
 use crate::taken::{Taken, longer};
-use crate::tally::Tally;
+use crate::tally::{Tally, least};
 use sal_base::{Kind, Memory, Name, Picture};
 use sal_chain::Store;
 use sal_codec::{Codec, keeps_the_law};
 use sal_wire::{Ack, Datagram, read};
 use sal_y4m::Head;
-use std::alloc::{AllocError, Global};
+use std::alloc::Global;
 use std::marker::Model;
 use std::sync::Arc;
 
@@ -89,82 +88,6 @@ const MOST_PICTURES: u32 = 1_048_575;
 
 /// How many numbers there are from the floor on.
 const WINDOW: u32 = 16;
-
-/// The number to go on from.
-fn onward_of(is_full: bool, is_lost: bool, safe: u32, tip: u32) -> u32
-    ensures { result ≡ (if is_full then 0 else if is_lost then safe else tip) }
-{
-    if is_full {
-        0
-    } else if is_lost {
-        safe
-    } else {
-        tip
-    }
-}
-
-/// How a picture is encoded from the state of this number.
-fn kind_of(source: u32) -> Kind
-    ensures { result ≡ kind_of source }
-{
-    if source == 0 { Kind::Key } else { Kind::Inter }
-}
-
-/// A name has sixteen bytes.
-fn has_sixteen(name: Name)
-    ensures { length name.0 ≡ 16 }
-{
-    let _bytes = name.0;
-}
-
-/// The least window of pictures of this size.
-fn least(width: u16, height: u16) -> u32
-    ensures { result ≡ least_of width height }
-{
-    let columns = (u32::from(width) + 15) / 16;
-    let rows = (u32::from(height) + 15) / 16;
-    16 + columns * rows / 16
-}
-
-/// Says of a job whether it is out.
-#[tactic(auto, using(std::proofs::lemmas::List::set_past))]
-fn mark(out: &mut Vec<bool>, id: u32, is_out: bool)
-    ensures { out.new.items ≡ slice_set out.old.items id is_out }
-{
-    let place = id as usize;
-    if place < out.len() {
-        out[place] = is_out;
-    }
-}
-
-/// Adds jobs that aren't out; want of memory changes nothing.
-fn grow(out: &mut Vec<bool>, count: u32) -> Result<(), AllocError>
-    requires { count ≤ 3 }
-    ensures { out.new.items ≡ (if is_ok result then out.old.items ++ replicate count false else out.old.items) }
-{
-    out.resize(out.len() + count as usize, false)
-}
-
-/// Whether a job is out.
-fn is_out(out: &[bool], id: u32) -> bool
-    ensures { result ≡ flag out.now id }
-{
-    match out.get(id as usize) {
-        Some(is_out) => *is_out,
-        None => false,
-    }
-}
-
-/// What the report of a job that was out is answered.
-fn known(is_open: bool) -> Reported
-    ensures { result ≡ (if is_open then Kept else Late) }
-{
-    if is_open {
-        Reported::Kept
-    } else {
-        Reported::Late
-    }
-}
 
 impl<C: Codec> Sender<C> {
     /// A sender that was given no call yet.
@@ -431,6 +354,7 @@ impl<C: Codec> Sender<C> {
             Err(_) => Next::Memory,
         }
     }
+
     /// Whether the chain of the tip is lost.
     fn is_lost(&self) -> bool
         ensures { result ≡ lost_of self.now }
@@ -480,6 +404,7 @@ impl<C: Codec> Sender<C> {
             moment: at,
         }
     }
+
     /// Takes the frame that the report of a job has, which fits; all memory is taken here.
     fn prepare(&self, seat: &Seat<Report<C>>, at: u64) -> Result<Taken<Arc<C::State>>, Memory>
         requires started { self.now.tip < self.now.pictures }
@@ -545,5 +470,31 @@ impl<C: Codec> Sender<C> {
         self.tally.pass(moment);
         self.open = None;
         self.q = (self.q + 8).min(127);
+    }
+
+    /// Chooses among the reports of the open picture: the first eligible one that fits the budget, if its needed report is in.
+    pub fn choose(&mut self, moment: u64) -> Chosen
+        ensures answered { Answered C.coding self.old.session (Stands C.coding) self.old self.new (Choose moment result) }
+        ensures refused { closes result ≡ false → self.new ≡ self.old }
+        ensures session { self.new.session ≡ self.old.session }
+    {
+        let Some(picture) = &self.open else {
+            return Chosen::NoPicture;
+        };
+        let is_lost = picture.is_lost(self.is_lost());
+        if let Some(id) = picture.missing(is_lost) {
+            return Chosen::Waiting(id);
+        }
+        let at = self.tally.moment.max(moment);
+        let budget = self.budget(at);
+        let Some(seat) = found(picture, is_lost, budget) else {
+            let sizes = sizes(picture, is_lost);
+            self.close(moment);
+            return Chosen::Nothing(budget, sizes);
+        };
+        match self.prepare(seat, at) {
+            Ok(taken) => self.send(taken),
+            Err(_) => Chosen::Memory,
+        }
     }
 }

@@ -3,7 +3,7 @@
 ghost use Rattle.std.specs.Prelude.{◌≡◌, ◌≤◌, [], ◌∷◌, Ok, max};
 ghost use Rattle.sal_wire.specs.declared.datagram.Ack.{Ack};
 ghost use Rattle.sal_wire.specs.Came.{Report as AckCame};
-ghost use Rattle.sal_budget.specs.Budget.{budget_of};
+ghost use Rattle.sal_budget.specs.Budget.{budget_of, least_of};
 ghost use Rattle.sal_sender.specs.declared.answers.HeardAck.TheVariants.{Heard};
 ghost use Rattle.sal_sender.specs.Past.{Past, Hear, choices, sent, sent_at_of};
 ghost use Rattle.sal_sender.specs.Acks.{average, flight};
@@ -66,4 +66,13 @@ impl Tally {
         };
         budget(self.average, least, &flight, moment)
     }
+}
+
+/// The least window of pictures of this size.
+pub(crate) fn least(width: u16, height: u16) -> u32
+    ensures { result ≡ least_of width height }
+{
+    let columns = (u32::from(width) + 15) / 16;
+    let rows = (u32::from(height) + 15) / 16;
+    16 + columns * rows / 16
 }
