@@ -1,5 +1,5 @@
 -- The report that is found by what is kept is the one that is found by the past.
-use Rattle.std.proofs.Common.{◌≡◌, ℕ, ◌+◌, Bool, true, false, cond, List, [], ◌∷◌, Option, Some, None, refl, ap, sym, ◌∙◌, subst, ◌⊎◌, inl, inr}
+use Rattle.std.proofs.Common.{◌≡◌, ℕ, Bool, true, false, cond, List, [], Option, Some, None, refl, sym, ◌∙◌, subst, ◌⊎◌, inl, inr}
 use Rattle.std.specs.List.{find, cons_option}
 use Rattle.std.specs.Option.{option_map}
 use Rattle.sal_codec.specs.Coding.{Coding}
@@ -13,7 +13,7 @@ use Rattle.sal_sender.specs.Choosing.{Candidate, may_send, candidates, is_coarse
 use Rattle.sal_sender.specs.Hearing.{or_else}
 use Rattle.sal_sender.specs.Picking.{id_without_report, needed_in, missing_from, fits_in, has_fit, fitting_in, found_in}
 use Rattle.sal_sender.specs.Work.{Work, Ran}
-use Rattle.sal_sender.specs.Stands.{summary, work_in}
+use Rattle.sal_sender.specs.Stands.{work_in}
 use Rattle.sal_sender.proofs.Choosings.{ran_of, cand, fits_same, size_by, size_seat, cands_of, seat_of, opened_as, planned_as}
 
 first_or : {X : Type 0} (a b : Option X) (x : X) → or_else a b ≡ Some x → (a ≡ Some x) ⊎ ((a ≡ None) × (b ≡ Some x))

@@ -1,6 +1,6 @@
 -- What a sender keeps after a choice.
-use Rattle.std.proofs.Common.{◌≡◌, ◌≢◌, ℕ, ◌+◌, ◌<◌, ◌≤◌, max, Bool, true, false, cond, not, ◌&&◌, List, [], ◌∷◌, ◌++◌, length, map, Option, Some, None, refl, ap, sym, ◌∙◌, subst, arith, eqb, leb, ltb}
-use Rattle.std.proofs.lemmas.Bool.{eqb-true, eqb-false, eq-eqb, ne_eqb, leb-true, leb-false, le-leb, lt-leb}
+use Rattle.std.proofs.Common.{◌≡◌, ◌≢◌, ℕ, ◌+◌, ◌<◌, ◌≤◌, max, Bool, true, false, cond, not, ◌&&◌, List, [], ◌∷◌, length, map, Option, Some, None, refl, ap, sym, ◌∙◌, subst, arith, eqb, leb, ltb}
+use Rattle.std.proofs.lemmas.Bool.{eqb-true, eqb-false, ne_eqb, leb-true, leb-false, le-leb, lt-leb}
 use Rattle.std.specs.List.{list_any, filter}
 use Rattle.sal_base.specs.Lists.{Each}
 use Rattle.sal_base.specs.declared.name.Name.{Name}
@@ -20,7 +20,6 @@ use Rattle.sal_sender.specs.Answers.{jobs_after, is_taken, waiting_jobs}
 use Rattle.sal_sender.specs.Links.{link_of, choices_from, links_of}
 use Rattle.sal_sender.specs.Sending.{with_choice, after_choice, IsNext}
 use Rattle.sal_sender.specs.Sound.{AreChained}
-use Rattle.sal_sender.specs.Work.{Work}
 use Rattle.sal_sender.specs.Machine.{Machine}
 use Rattle.sal_sender.specs.Stands.{Summary, summary, work_in, kept_in, Keeps, Stands}
 use Rattle.sal_sender.proofs.HandedOut.{each_filter}

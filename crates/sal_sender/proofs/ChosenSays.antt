@@ -1,5 +1,5 @@
 -- What is taken of the report that was found is what the past says that is sent.
-use Rattle.std.proofs.Common.{◌≡◌, ℕ, suc, zero, ◌+◌, ◌-◌, max, min, Bool, true, false, cond, List, [], ◌∷◌, ◌++◌, length, map, Option, Some, None, refl, ap, sym, ◌∙◌, subst, arith, eqb, length-append}
+use Rattle.std.proofs.Common.{◌≡◌, ℕ, suc, zero, ◌+◌, max, Bool, true, false, List, [], ◌∷◌, length, map, Option, Some, None, refl, ap, sym, ◌∙◌, subst, arith, eqb, length-append}
 use Rattle.std.proofs.lemmas.Bool.{eq-eqb, le-leb}
 use Rattle.std.proofs.lemmas.List.{length-map}
 use Rattle.std.specs.List.{find}
@@ -7,12 +7,10 @@ use Rattle.std.specs.Option.{option_map}
 use Rattle.std.specs.Arc.{arc_value}
 use Rattle.std.specs.declared.sync.Arc.{Arc}
 use Rattle.sal_base.specs.declared.picture.Picture.{Picture}
-use Rattle.sal_base.specs.declared.coding.Encoding.{Encoding}
 use Rattle.sal_base.specs.declared.coding.Encoding.TheVariants.{Frame}
 use Rattle.sal_codec.specs.Coding.{Coding, Made, made_of}
 use Rattle.sal_wire.specs.Pieces.{below, count_of}
 use Rattle.sal_wire.specs.Spelling.{text}
-use Rattle.sal_wire.specs.Entry.{Entry}
 use Rattle.sal_sender.specs.declared.choice.Choice.{Choice}
 use Rattle.sal_sender.specs.declared.seat.Seat.{Seat}
 use Rattle.sal_sender.specs.declared.seat.Open.{Open}
@@ -25,16 +23,16 @@ use Rattle.sal_sender.specs.Acks.{acknowledged, safe, lost}
 use Rattle.sal_sender.specs.Jobs.{Job, jobs, base, is_spared, coarse_job, spare_job, fine_job}
 use Rattle.sal_sender.specs.Choosing.{Candidate, choice_of, count_in, fits, may_send, candidates, lost_since, reported, needed, choose_among, choose_found, choose_opened, choose_needed, sent_with, chosen}
 use Rattle.sal_sender.specs.Links.{links_of}
-use Rattle.sal_sender.specs.Picking.{is_lost_in, needed_in, missing_from, found_in}
-use Rattle.sal_sender.specs.Sending.{lost_of, pause_in, budget_in, choice_in, IsTaken}
+use Rattle.sal_sender.specs.Picking.{needed_in, missing_from, found_in}
+use Rattle.sal_sender.specs.Sending.{pause_in, choice_in, IsTaken}
 use Rattle.sal_sender.specs.Sound.{AreChained}
 use Rattle.sal_sender.specs.Work.{Work, Ran, encoded}
 use Rattle.sal_sender.specs.Machine.{Machine}
-use Rattle.sal_sender.specs.Stands.{Summary, summary, work_in, seat_in, open_in, Keeps, Stands}
-use Rattle.sal_sender.proofs.Choosings.{ran_of, size_by, cands_of, seat_of, lost_here, budget_is, spared_then}
+use Rattle.sal_sender.specs.Stands.{summary, work_in, open_in, Keeps, Stands}
+use Rattle.sal_sender.proofs.Choosings.{ran_of, size_by, cands_of, seat_of, spared_then}
 use Rattle.sal_sender.proofs.ChosenFound.{IsFound, found_planned, among_planned}
 use Rattle.sal_sender.proofs.Sound.{chained_of_legal, floor_low}
-use Rattle.sal_sender.proofs.Started.{safe_is, lost_is}
+use Rattle.sal_sender.proofs.Started.{safe_is}
 
 -- as many numbers as there are below one
 length_below : (n : ℕ) → length (below n) ≡ n

@@ -1,17 +1,16 @@
 -- A choice that was taken.
-use Rattle.std.proofs.Common.{◌≡◌, ℕ, ◌+◌, max, Bool, List, [], ◌∷◌, ◌++◌, length, Option, Some, None, refl, ap, sym, ◌∙◌, subst, arith, length-append, ◌⊎◌, inl, inr}
+use Rattle.std.proofs.Common.{◌≡◌, ℕ, ◌+◌, max, Bool, [], ◌∷◌, ◌++◌, length, Option, Some, None, refl, ap, sym, ◌∙◌, subst, arith, length-append, ◌⊎◌, inl}
 use Rattle.std.proofs.lemmas.List.{append-nil}
 use Rattle.std.specs.Arc.{arc_value}
 use Rattle.std.specs.Option.{option_map}
 use Rattle.std.specs.declared.sync.Arc.{Arc}
 use Rattle.sal_codec.specs.Coding.{Coding}
-use Rattle.sal_sender.specs.declared.choice.Choice.{Choice}
 use Rattle.sal_sender.specs.declared.seat.Seat.{Seat}
 use Rattle.sal_sender.specs.declared.seat.Open.{Open}
 use Rattle.sal_sender.specs.declared.taken.Taken.{Taken}
 use Rattle.sal_sender.specs.declared.answers.Chosen.{Chosen}
 use Rattle.sal_sender.specs.declared.answers.Chosen.TheVariants.{Sent, Memory}
-use Rattle.sal_sender.specs.Past.{Past, Choose, choices, pictures, datagrams, opened, now, last_job, sent}
+use Rattle.sal_sender.specs.Past.{Past, Choose, pictures, datagrams, opened, now, last_job, sent}
 use Rattle.sal_sender.specs.Acks.{lost}
 use Rattle.sal_sender.specs.OneThread.{Session}
 use Rattle.sal_sender.specs.Choosing.{may_send, lost_since, choose_opened, chosen}

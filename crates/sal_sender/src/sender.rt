@@ -1,8 +1,7 @@
 //! The sender.
 
-ghost use Rattle.std.specs.Prelude.{◌≡◌, ◌≤◌, ◌<◌, ◌+◌, ◌^◌, [], ◌∷◌, ◌++◌, replicate, length, true, false, is_ok, map, IfOk, OnOk, OnErr, IfSome, None, Some, slice_set, if◌then◌else◌};
+ghost use Rattle.std.specs.Prelude.{◌≡◌, ◌≤◌, ◌<◌, ◌+◌, ◌^◌, [], ◌∷◌, ◌++◌, true, false, IfOk, OnOk, OnErr, IfSome, None, Some, if◌then◌else◌};
 ghost use Rattle.std.specs.Option.{option_map};
-ghost use Rattle.sal_base.specs.Picture.{AreSides};
 ghost use Rattle.sal_codec.specs.Coding.{HasSides};
 ghost use Rattle.sal_sender.specs.Past.{Past, NextPicture, TakeJob, Report as ReportCall, Choose, Hear};
 ghost use Rattle.sal_sender.specs.OneThread.{Session};
@@ -18,9 +17,9 @@ ghost use Rattle.sal_wire.specs.Reading.{came};
 ghost use Rattle.sal_sender.specs.Hearing.{judged, after_ack};
 ghost use Rattle.std.specs.Arc.{arc_value};
 ghost use Rattle.sal_sender.specs.Planned.{plan_of, count_of, coarse_q, work_from, queue_of, after_start};
-ghost use Rattle.sal_sender.specs.Machine.{Machine, IsHead, IsOwn, IsSeat, IsSized, flag};
+ghost use Rattle.sal_sender.specs.Machine.{Machine, IsHead, IsOwn, IsSeat, IsSized};
 ghost use Rattle.sal_sender.specs.Stands.{Stands, IsOwnWork};
-ghost use Rattle.sal_sender.specs.Sending.{lost_of, budget_in, floor_in, choice_in, pause_in, with_choice, IsNext, IsTaken, after_choice, after_nothing};
+ghost use Rattle.sal_sender.specs.Sending.{lost_of, budget_in, floor_in, choice_in, with_choice, IsNext, IsTaken, after_choice, after_nothing};
 ghost use Rattle.sal_sender.specs.Picking.{has_fit, size_in};
 ghost use Rattle.sal_sender.specs.Answers.{closes};
 ghost use Rattle.sal_sender.specs.declared.answers.Chosen.TheVariants.{Sent};
@@ -472,7 +471,8 @@ impl<C: Codec> Sender<C> {
         self.q = (self.q + 8).min(127);
     }
 
-    /// Chooses among the reports of the open picture: the first eligible one that fits the budget, if its needed report is in.
+    /// Chooses among the reports of the open picture, at a moment in microseconds: sends the first eligible frame that fits what may
+    /// be sent now, or closes the picture where none fits. It waits for the report that is needed; want of memory changes nothing.
     pub fn choose(&mut self, moment: u64) -> Chosen
         ensures answered { Answered C.coding self.old.session (Stands C.coding) self.old self.new (Choose moment result) }
         ensures refused { closes result ≡ false → self.new ≡ self.old }
