@@ -1,0 +1,4 @@
+pub mod LineLemmas
+pub mod JudgeLemmas
+pub mod CutLemmas
+pub mod ReadLemmas

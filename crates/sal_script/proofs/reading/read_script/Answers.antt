@@ -1,0 +1,10 @@
+use Rattle.sal_script.proofs.ReadLemmas.{more_given, completed}
+use Rattle.sal_script.proofs.reading.read_script.Goals as goal
+
+pub returns-in-More-clause-told : goal.returns-in-More-clause-told
+returns-in-More-clause-told g c =
+    more_given _ _ _ _ _ c.in-More.ensures.bytes.0 c.in-More.ensures.bytes.1 c.as_slice-in-More.ensures c.parse_lines-in-More.ensures.said
+
+pub returns-in-More-clause-complete : goal.returns-in-More-clause-complete
+returns-in-More-clause-complete g c =
+    λ still. completed _ _ _ _ c.parse_lines-in-More.ensures.said (returns-in-More-clause-told g c)

@@ -1,0 +1,4 @@
+pub mod Numbered
+pub mod Line
+pub mod Script
+pub mod Reads
