@@ -9,7 +9,7 @@ use Rattle.sal_script.specs.declared.grammar.Meaning.TheVariants as meant
 use Rattle.sal_script.specs.Numbered.{Numbered}
 use Rattle.sal_script.specs.Line.{text_of}
 use Rattle.sal_script.specs.Script.{most_script, split_lines, placed, meaning, with_first, with_line, judged, script_of}
-use Rattle.sal_script.specs.Reads.{IsFirst, Adds, Parses}
+use Rattle.sal_script.specs.Steps.{IsFirst, Adds, Parses}
 
 -- these lines before others
 abbrev pub joined : List Numbered → Result (List Numbered) ℕ → Result (List Numbered) ℕ

@@ -7,7 +7,7 @@ use Rattle.std.proofs.lemmas.List.Sums.{prefix_len-le-length}
 use Rattle.std.proofs.lemmas.Bool.Decides.{nat_tests}
 use Rattle.sal_script.specs.Line.{is_newline, text_of}
 use Rattle.sal_script.specs.Script.{split_lines}
-use Rattle.sal_script.specs.Reads.{IsFirst}
+use Rattle.sal_script.specs.Steps.{IsFirst}
 
 -- how many bytes stand before the first newline
 abbrev pub before : List ℕ → ℕ

@@ -6,7 +6,8 @@ use Rattle.sal_script.specs.declared.fault.ScriptFault.{ScriptFault}
 use Rattle.sal_script.specs.declared.fault.ScriptFault.TheVariants.{Bad, ReadFault, Memory}
 use Rattle.sal_script.specs.Numbered.{Numbered}
 use Rattle.sal_script.specs.Script.{most_script, script_of}
-use Rattle.sal_script.specs.Reads.{Parses, ScriptGives, answer_of}
+use Rattle.sal_script.specs.Steps.{Parses}
+use Rattle.sal_script.specs.Reads.{ScriptGives, answer_of}
 use Rattle.sal_script.proofs.CutLemmas.{cut_off}
 
 same : (s text left : List ℕ) → most_script < length text → s ≡ text ++ left → script_of s ≡ script_of text

@@ -1,4 +1,5 @@
 pub mod Numbered
 pub mod Line
 pub mod Script
+pub mod Steps
 pub mod Reads

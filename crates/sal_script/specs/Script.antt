@@ -1,6 +1,6 @@
 -- What a script says.
-use Rattle.std.specs.Prelude.{ℕ, ◌+◌, List, [], ◌∷◌, length, Option, None, Some, Result, Ok, Err, ◌==◌, ◌&&◌, nat_le, if◌then◌else◌}
-use Rattle.std.specs.List.{onto_first}
+use Rattle.std.specs.Prelude.{◌≡◌, ◌≢◌, ℕ, ◌+◌, List, [], ◌∷◌, ◌++◌, length, Option, None, Some, Result, Ok, Err, ◌==◌, ◌&&◌, nat_le, if◌then◌else◌}
+use Rattle.std.specs.List.{onto_first, flat_map, AllByRecursion}
 use Rattle.sal_script.specs.declared.line.ScriptLine.{ScriptLine}
 use Rattle.sal_script.specs.declared.grammar.Meaning.{Meaning}
 use Rattle.sal_script.specs.declared.grammar.Meaning.TheVariants.{Skipped, Said, Bad}
@@ -66,3 +66,28 @@ judged (line ∷ more) = with_line (meaning line.end line.bytes) line.number (ju
 -- the grammar
 abbrev pub script_of : List ℕ → Result (List Numbered) ℕ
 script_of script = judged (lines_in script)
+
+-- ---- the same in words of single lines
+
+abbrev pub IsGood : Line → Type 0
+IsGood line = meaning line.end line.bytes ≢ Bad
+
+abbrev pub said_as : Meaning → ℕ → List Numbered
+said_as Skipped number = []
+said_as (Said line) number = (number, line) ∷ []
+said_as Bad number = []
+
+-- all lines of a script are in the grammar, and these are what they say, in order
+pub record IsAllSaid (script : List ℕ) (lines : List Numbered) : Type 0 where
+  pub good : AllByRecursion IsGood (lines_in script)
+  pub said : lines ≡ flat_map (λ line. said_as (meaning line.end line.bytes) line.number) (lines_in script)
+
+-- the line of this number, counted from 1 over all lines, is the first that isn't in the grammar
+pub record IsFirstBad (script : List ℕ) (number : ℕ) : Type 0 where
+  pub before : List Line
+  pub line : Line
+  pub after : List Line
+  pub lines : lines_in script ≡ before ++ line ∷ after
+  pub good : AllByRecursion IsGood before
+  pub bad : meaning line.end line.bytes ≡ Bad
+  pub counted : number ≡ length before + 1

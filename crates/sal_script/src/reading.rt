@@ -1,11 +1,12 @@
 //! Scripts from sources.
 
-ghost use Rattle.std.specs.Prelude.{◌≡◌, ◌≤◌, length, is_some, IfOk, Err};
+ghost use Rattle.std.specs.Prelude.{◌≡◌, ◌≤◌, length, is_some, IfSome, IfOk, Err};
 ghost use Rattle.std.specs.List.{position_or_len};
 ghost use Rattle.sal_io.specs.Calls.{HasCause};
 ghost use Rattle.sal_script.specs.Line.{is_newline};
 ghost use Rattle.sal_script.specs.Script.{most_script};
-ghost use Rattle.sal_script.specs.Reads.{IsFirst, Adds, Parses, ScriptGives, IsComplete};
+ghost use Rattle.sal_script.specs.Steps.{IsFirst, Adds, Parses};
+ghost use Rattle.sal_script.specs.Reads.{ScriptGives, IsComplete, SaysOf};
 
 use crate::fault::ScriptFault;
 use crate::grammar::{MOST_SCRIPT, Meaning, meaning_of};
@@ -72,6 +73,7 @@ fn parse_lines(alloc: Global, text: &[u8]) -> Result<Script, ScriptFault>
 /// source failed, also where a line before is bad; Memory.
 pub fn read_script<S: Source>(alloc: Global, source: &mut S) -> Result<Script, ScriptFault>
     ensures told { ScriptGives (S.left source.old) (S.left source.new) result }
+    ensures says { IfSome (S.left source.old) (λ script. SaysOf script result) }
     ensures complete { IsComplete (S.left source.old) (S.faults source.old) (S.faults source.new) result }
     ensures cause { HasCause (Err ScriptFault.ReadFault) (S.faults source.old) (S.faults source.new) result }
     ensures count { IfOk result (λ script. length script ≤ most_script) }
