@@ -1,6 +1,6 @@
 //! The lines of a script with their numbers.
 
-ghost use Rattle.std.specs.Prelude.{◌≡◌, [], ◌∷◌, ◌++◌, length, if◌then◌else◌, is_ok, slice_get};
+ghost use Rattle.std.specs.Prelude.{◌≡◌, [], ◌∷◌, ◌++◌, if◌then◌else◌, is_ok, slice_get};
 
 use crate::line::ScriptLine;
 use std::alloc::{AllocError, Global};
@@ -44,13 +44,6 @@ impl Script {
         ensures { result.now ≡ self.now }
     {
         self.lines.as_slice()
-    }
-
-    /// How many lines there are.
-    pub fn len(&self) -> usize
-        ensures { result ≡ length self.now }
-    {
-        self.lines.as_slice().len()
     }
 
     /// The line at this index from 0, with its number.

@@ -124,7 +124,7 @@ fn skipped_lines_count(rt: HostRuntime) -> Result<(), Fail> {
     assert_eq!(rt; fault(alloc, b"#\n\njump", &[])?, Some(ScriptFault::Bad(3)));
     match read(alloc, text, &[])?.0 {
         Ok(script) => {
-            assert_eq!(rt; script.len(), 3);
+            assert_eq!(rt; script.lines().len(), 3);
             assert_eq!(rt; script.get(1), Some((7, ScriptLine::Down(1))));
             assert_eq!(rt; script.get(3), None);
         }
