@@ -19,3 +19,8 @@ pub mod Kept
 pub mod Played
 pub mod Legal
 pub mod FromInvariant
+pub mod Stepping
+pub mod SenderSteps
+pub mod ReceiverSteps
+pub mod ChoiceSteps
+pub mod Stepped

@@ -1,11 +1,19 @@
 //! Both ends in one world, in which any datagram may come any number of times, in any order, or never.
 #![tactic(auto)]
 
+mod event;
 mod laws;
 mod script;
+mod text;
+mod world;
 
+pub use event::{Answer, Event};
 pub use laws::{
     a_script_keeps_every_promise, each_event_keeps_the_invariant, keeps_every_promise,
     keeps_its_promises, sends_in_every_world,
 };
 pub use script::ScriptLine;
+pub use world::World;
+
+#[cfg(test)]
+mod tests;
