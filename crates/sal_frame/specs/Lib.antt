@@ -2,3 +2,4 @@ pub mod After
 pub mod Built
 pub mod Records
 pub mod Residues
+pub mod Refreshing

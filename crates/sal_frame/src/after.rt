@@ -1,0 +1,138 @@
+//! The next state: what is kept for later headers and macroblocks, and the references (RFC 6386, sections 9.3, 9.6, 9.7 and 9.11).
+
+ghost use Rattle.std.specs.Prelude.{◌≡◌, IfOk, IfSome, false, Some, if◌then◌else◌};
+ghost use Rattle.std.specs.Arc.{arc_value};
+ghost use Rattle.std.specs.Option.{option_copied};
+ghost use Rattle.sal_base.specs.declared.picture.Planes.{Planes as PlanesData};
+ghost use Rattle.sal_frame.specs.Records.{Record};
+ghost use Rattle.sal_frame.specs.After.{copied, all_new, some_new, references_after};
+ghost use Rattle.sal_frame.specs.Refreshing.{refreshes};
+
+use sal_base::Memory;
+use sal_header::Header;
+use sal_state::{Reference, References};
+use std::sync::Arc;
+
+/// Whether a frame makes a new reference: all key frames, and inter frames that refresh one.
+pub fn refreshes(header: &Header) -> bool
+    ensures { result ≡ refreshes header.now }
+{
+    header.key || header.refresh_last || header.refresh_golden || header.refresh_alt
+}
+
+// What a copy flag says of a reference: 1 and 2 name the others, 0 and 3 leave it.
+fn copied(
+    flag: u8,
+    old: &Arc<Reference>,
+    first: &Arc<Reference>,
+    second: &Arc<Reference>,
+) -> Result<Arc<Reference>, Memory>
+    ensures { IfOk result (λ r. arc_value r ≡ copied flag (arc_value old.now) (arc_value first.now) (arc_value second.now)) }
+{
+    let chosen = match flag {
+        1 => first,
+        2 => second,
+        _ => old,
+    };
+    Ok(Arc::try_clone(chosen)?)
+}
+
+// A share of the new reference where it is refreshed, else of what the copy flag says.
+fn refreshed(
+    refresh: bool,
+    new: &Arc<Reference>,
+    flag: u8,
+    old: &Arc<Reference>,
+    first: &Arc<Reference>,
+    second: &Arc<Reference>,
+) -> Result<Arc<Reference>, Memory>
+    ensures { IfOk result (λ r. arc_value r ≡ (if refresh then arc_value new.now else copied flag (arc_value old.now) (arc_value first.now) (arc_value second.now))) }
+{
+    if refresh {
+        Ok(Arc::try_clone(new)?)
+    } else {
+        copied(flag, old, first, second)
+    }
+}
+
+// The new reference three times, as after a key frame.
+fn all_new(width: u16, height: u16, new: &Arc<Reference>) -> Result<References, Memory>
+    ensures { (f : Record) → f.width ≡ width → f.height ≡ height → IfOk result (λ r. r ≡ all_new f (arc_value new.now)) }
+{
+    Ok(References {
+        width,
+        height,
+        last: Arc::try_clone(new)?,
+        golden: Arc::try_clone(new)?,
+        alt: Arc::try_clone(new)?,
+    })
+}
+
+// The references after an inter frame; copies are of those before it.
+fn some_new(
+    old: &References,
+    header: &Header,
+    new: &Arc<Reference>,
+) -> Result<References, Memory>
+    ensures { (f : Record) → f.header ≡ header.now → f.width ≡ old.now.width → f.height ≡ old.now.height → IfOk result (λ r. r ≡ some_new f (arc_value new.now) old.now) }
+{
+    let last = refreshed(header.refresh_last, new, 0, &old.last, &old.last, &old.last)?;
+    let golden = refreshed(
+        header.refresh_golden,
+        new,
+        header.copy_golden,
+        &old.golden,
+        &old.last,
+        &old.alt,
+    )?;
+    let alt = refreshed(
+        header.refresh_alt,
+        new,
+        header.copy_alt,
+        &old.alt,
+        &old.last,
+        &old.golden,
+    )?;
+    Ok(References {
+        width: old.width,
+        height: old.height,
+        last,
+        golden,
+        alt,
+    })
+}
+
+/// The references after a frame whose planes are the new reference: all of them after a key frame, else those that it
+/// refreshes; copies are of the references before it.
+pub fn references_after(
+    old: Option<&References>,
+    header: &Header,
+    width: u16,
+    height: u16,
+    new: &Arc<Reference>,
+) -> Result<References, Memory>
+    requires size { IfSome (option_copied old) (λ r. header.now.key ≡ false → (width ≡ r.width) × (height ≡ r.height)) }
+    ensures { (f : Record) → f.header ≡ header.now → f.width ≡ width → f.height ≡ height → IfOk result (λ r. r ≡ references_after f (arc_value new.now) (option_copied old.entry)) }
+{
+    match old {
+        Some(old) if !header.key => some_new(old, header, new),
+        _ => all_new(width, height, new),
+    }
+}
+
+/// The references after an inter frame that refreshes none: no planes are made anew, and copies are of those before it.
+pub fn references_kept(old: &References, header: &Header) -> Result<References, Memory>
+    requires none { refreshes header.now ≡ false }
+    ensures { (f : Record) (p : PlanesData) → f.header ≡ header.now → f.width ≡ old.now.width → f.height ≡ old.now.height → IfOk result (λ r. r ≡ references_after f p (Some old.now)) }
+{
+    let last = Arc::try_clone(&old.last)?;
+    let golden = copied(header.copy_golden, &old.golden, &old.last, &old.alt)?;
+    let alt = copied(header.copy_alt, &old.alt, &old.last, &old.golden)?;
+    Ok(References {
+        width: old.width,
+        height: old.height,
+        last,
+        golden,
+        alt,
+    })
+}
