@@ -1,9 +1,12 @@
 //! The next state: what is kept for later headers and macroblocks, and the references (RFC 6386, sections 9.3, 9.6, 9.7 and 9.11).
 
-ghost use Rattle.std.specs.Prelude.{◌≡◌, IfOk, IfSome, false, Some, if◌then◌else◌};
+ghost use Rattle.std.specs.Prelude.{◌≡◌, ℕ, IfOk, IfSome, false, Some, if◌then◌else◌};
 ghost use Rattle.std.specs.Arc.{arc_value};
 ghost use Rattle.std.specs.Option.{option_copied};
 ghost use Rattle.sal_base.specs.declared.picture.Planes.{Planes as PlanesData};
+ghost use Rattle.sal_base.specs.Picture.{AreSides};
+ghost use Rattle.sal_base.specs.Pictures.{blocks_of};
+ghost use Rattle.sal_state.specs.States.{HasBlocks, AreReferences};
 ghost use Rattle.sal_frame.specs.Records.{Record};
 ghost use Rattle.sal_frame.specs.After.{copied, all_new, some_new, references_after};
 ghost use Rattle.sal_frame.specs.Refreshing.{refreshes};
@@ -27,7 +30,8 @@ fn copied(
     first: &Arc<Reference>,
     second: &Arc<Reference>,
 ) -> Result<Arc<Reference>, Memory>
-    ensures { IfOk result (λ r. arc_value r ≡ copied flag (arc_value old.now) (arc_value first.now) (arc_value second.now)) }
+    ensures whole { (columns rows : ℕ) → HasBlocks columns rows (arc_value old.now) → HasBlocks columns rows (arc_value first.now) → HasBlocks columns rows (arc_value second.now) → IfOk result (λ r. HasBlocks columns rows (arc_value r)) }
+    ensures share { IfOk result (λ r. arc_value r ≡ copied flag (arc_value old.now) (arc_value first.now) (arc_value second.now)) }
 {
     let chosen = match flag {
         1 => first,
@@ -46,7 +50,8 @@ fn refreshed(
     first: &Arc<Reference>,
     second: &Arc<Reference>,
 ) -> Result<Arc<Reference>, Memory>
-    ensures { IfOk result (λ r. arc_value r ≡ (if refresh then arc_value new.now else copied flag (arc_value old.now) (arc_value first.now) (arc_value second.now))) }
+    ensures whole { (columns rows : ℕ) → HasBlocks columns rows (arc_value new.now) → HasBlocks columns rows (arc_value old.now) → HasBlocks columns rows (arc_value first.now) → HasBlocks columns rows (arc_value second.now) → IfOk result (λ r. HasBlocks columns rows (arc_value r)) }
+    ensures share { IfOk result (λ r. arc_value r ≡ (if refresh then arc_value new.now else copied flag (arc_value old.now) (arc_value first.now) (arc_value second.now))) }
 {
     if refresh {
         Ok(Arc::try_clone(new)?)
@@ -57,7 +62,11 @@ fn refreshed(
 
 // The new reference three times, as after a key frame.
 fn all_new(width: u16, height: u16, new: &Arc<Reference>) -> Result<References, Memory>
-    ensures { (f : Record) → f.width ≡ width → f.height ≡ height → IfOk result (λ r. r ≡ all_new f (arc_value new.now)) }
+    requires sides { AreSides width height }
+    requires blocks { HasBlocks (blocks_of width) (blocks_of height) (arc_value new.now) }
+    ensures whole { IfOk result AreReferences }
+    ensures size { IfOk result (λ r. (r.width ≡ width) × (r.height ≡ height)) }
+    ensures after { (f : Record) → f.width ≡ width → f.height ≡ height → IfOk result (λ r. r ≡ all_new f (arc_value new.now)) }
 {
     Ok(References {
         width,
@@ -69,12 +78,12 @@ fn all_new(width: u16, height: u16, new: &Arc<Reference>) -> Result<References, 
 }
 
 // The references after an inter frame; copies are of those before it.
-fn some_new(
-    old: &References,
-    header: &Header,
-    new: &Arc<Reference>,
-) -> Result<References, Memory>
-    ensures { (f : Record) → f.header ≡ header.now → f.width ≡ old.now.width → f.height ≡ old.now.height → IfOk result (λ r. r ≡ some_new f (arc_value new.now) old.now) }
+fn some_new(old: &References, header: &Header, new: &Arc<Reference>) -> Result<References, Memory>
+    requires old { AreReferences old.now }
+    requires blocks { HasBlocks (blocks_of old.now.width) (blocks_of old.now.height) (arc_value new.now) }
+    ensures whole { IfOk result AreReferences }
+    ensures size { IfOk result (λ r. (r.width ≡ old.now.width) × (r.height ≡ old.now.height)) }
+    ensures after { (f : Record) → f.header ≡ header.now → f.width ≡ old.now.width → f.height ≡ old.now.height → IfOk result (λ r. r ≡ some_new f (arc_value new.now) old.now) }
 {
     let last = refreshed(header.refresh_last, new, 0, &old.last, &old.last, &old.last)?;
     let golden = refreshed(
@@ -112,7 +121,12 @@ pub fn references_after(
     new: &Arc<Reference>,
 ) -> Result<References, Memory>
     requires size { IfSome (option_copied old) (λ r. header.now.key ≡ false → (width ≡ r.width) × (height ≡ r.height)) }
-    ensures { (f : Record) → f.header ≡ header.now → f.width ≡ width → f.height ≡ height → IfOk result (λ r. r ≡ references_after f (arc_value new.now) (option_copied old.entry)) }
+    requires old { IfSome (option_copied old) AreReferences }
+    requires sides { AreSides width height }
+    requires blocks { HasBlocks (blocks_of width) (blocks_of height) (arc_value new.now) }
+    ensures after { (f : Record) → f.header ≡ header.now → f.width ≡ width → f.height ≡ height → IfOk result (λ r. r ≡ references_after f (arc_value new.now) (option_copied old.entry)) }
+    ensures whole { IfOk result AreReferences }
+    ensures size { IfOk result (λ r. (r.width ≡ width) × (r.height ≡ height)) }
 {
     match old {
         Some(old) if !header.key => some_new(old, header, new),
@@ -123,7 +137,10 @@ pub fn references_after(
 /// The references after an inter frame that refreshes none: no planes are made anew, and copies are of those before it.
 pub fn references_kept(old: &References, header: &Header) -> Result<References, Memory>
     requires none { refreshes header.now ≡ false }
-    ensures { (f : Record) (p : PlanesData) → f.header ≡ header.now → f.width ≡ old.now.width → f.height ≡ old.now.height → IfOk result (λ r. r ≡ references_after f p (Some old.now)) }
+    requires old { AreReferences old.now }
+    ensures whole { IfOk result AreReferences }
+    ensures size { IfOk result (λ r. (r.width ≡ old.now.width) × (r.height ≡ old.now.height)) }
+    ensures after { (f : Record) (p : PlanesData) → f.header ≡ header.now → f.width ≡ old.now.width → f.height ≡ old.now.height → IfOk result (λ r. r ≡ references_after f p (Some old.now)) }
 {
     let last = Arc::try_clone(&old.last)?;
     let golden = copied(header.copy_golden, &old.golden, &old.last, &old.alt)?;

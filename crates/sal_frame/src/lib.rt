@@ -4,6 +4,8 @@
 
 mod after;
 mod cropping;
+mod next;
 
-pub use after::{references_after, references_kept, refreshes};
+pub use after::refreshes;
 pub use cropping::crop;
+pub use next::next_state;

@@ -1,7 +1,8 @@
 //! States.
 
-ghost use Rattle.std.specs.Prelude.{◌≡◌, ◌↔◌, ◌++◌, ◌*◌, ℕ, List, IfOk, IfSome, Some, None, length};
+ghost use Rattle.std.specs.Prelude.{◌≡◌, ◌++◌, ◌*◌, ℕ, List, IfOk, IfSome, Some, length};
 ghost use Rattle.std.specs.Arc.{arc_value};
+ghost use Rattle.std.specs.Option.{option_copied};
 ghost use Rattle.sal_base.specs.Pictures.{blocks_of};
 ghost use Rattle.sal_state.specs.States.{initial_state, AreReferences, IsState};
 ghost use Rattle.sha2.specs.Sha256.{sha256};
@@ -99,8 +100,8 @@ impl State {
 
     /// The size and the references; none before the first key frame.
     pub fn references(&self) -> Option<&References>
-        ensures none { result ≡ None ↔ self.now.references ≡ None }
-        ensures some { IfSome result (λ r. self.now.references ≡ Some r.now) }
+        ensures references { option_copied result ≡ self.now.references }
+        ensures whole { IfSome self.now.references AreReferences }
     {
         self.references.as_ref()
     }

@@ -5,9 +5,10 @@ use Rattle.sal_frame.proofs.RowsCut.{Onward, next_row, no_row, longer}
 use Rattle.sal_frame.proofs.cropping.cut.Goals as goal
 
 pub loop-row-preserved : goal.loop-row-preserved
-loop-row-preserved c =
-    (rw c.in_ok-extend_from_slice.ensures.items (next_row c.args.plane.now.width c.args.width c.as_slice-from.result.now _ c.loop-row.row c.args.height c.loop-row.samples.items c.loop-row-test.true c.loop-row.invariant.0)
-    , rw c.in_ok-extend_from_slice.ensures.items (longer c.loop-row.row c.args.plane.now.width c.args.width c.args.plane.now.height c.loop-row.samples.items c.as_slice-from.result.now (omega (arith, c.loop-row-test.true, c.requires.high)) c.requires.wide (ap length c.as_slice-from.ensures ∙ c.requires.samples) c.loop-row.invariant.1))
+loop-row-preserved c = (
+  rw c.in_ok-extend_from_slice.ensures.items (next_row c.args.plane.now.width c.args.width c.as_slice-from.result.now _ c.loop-row.row c.args.height c.loop-row.samples.items c.loop-row-test.true c.loop-row.invariant.0),
+  rw c.in_ok-extend_from_slice.ensures.items (longer c.loop-row.row c.args.plane.now.width c.args.width c.args.plane.now.height c.loop-row.samples.items c.as_slice-from.result.now (omega (arith, c.loop-row-test.true, c.requires.high)) c.requires.wide (ap length c.as_slice-from.ensures ∙ c.requires.samples) c.loop-row.invariant.1),
+)
 
 pub returns-clause-cut : goal.returns-clause-cut
 returns-clause-cut c =
