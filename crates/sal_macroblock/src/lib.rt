@@ -2,9 +2,11 @@
 #![tactic(auto)]
 
 mod block;
+mod levels;
 mod mode;
 
 pub use block::Block;
+pub use levels::Levels;
 pub use mode::{MbMode, RefKind};
 
 #[cfg(test)]

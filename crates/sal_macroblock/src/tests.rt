@@ -19,3 +19,15 @@ fn a_macroblock_tells_its_kind(rt: HostRuntime) -> Result<(), Fail> {
     assert_eq!(rt; outside.sub[7], SubMode::BDC);
     Ok(())
 }
+
+#[test]
+fn levels_stand_by_block(rt: HostRuntime) {
+    let mut levels = Levels::none();
+    let mut block = Block([0; 16]);
+    block.0[15] = -2114;
+    levels.put(23, block);
+    assert_eq!(rt; *levels.block(23), block);
+    assert_eq!(rt; *levels.block(24), Block([0; 16]));
+    levels.clear();
+    assert_eq!(rt; *levels.block(23), Block([0; 16]));
+}
