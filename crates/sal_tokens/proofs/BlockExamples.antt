@@ -6,7 +6,8 @@ use Rattle.sal_bool.specs.Syntax.{◌>>=◌, read, number, walk}
 use Rattle.sal_tables.specs.Tables.{default_coefficients_of, default_rows, bands_of, category_bases_of, category_bits_of}
 use Rattle.sal_tables.specs.Trees.{token_entries}
 use Rattle.sal_tokens.specs.Levels.{token_row, token_size, levels, block}
-use Rattle.sal_tokens.specs.Blocks.{places, blocks, macroblock, skipped, no_levels}
+use Rattle.sal_macroblock.specs.Blocks.{no_levels}
+use Rattle.sal_tokens.specs.Blocks.{places, blocks, macroblock, skipped}
 
 -- sixteen levels of which the last are 0
 abbrev padded : List ℤ → List ℤ

@@ -1,3 +1,4 @@
 mod Examples
 mod BlockExamples
 pub mod Blocks
+pub mod BlockSteps

@@ -1,15 +1,10 @@
 -- The blocks of a macroblock, in the order of their bits, with the contexts from those left and above (RFC 6386, 13.3 and 19.3).
-use Rattle.std.specs.Prelude.{ℕ, ◌+◌, ◌/◌, ◌%◌, ℤ, pos, List, [], ◌∷◌, ◌++◌, Bool, false, ◌||◌, if◌then◌else◌, replicate, slice_index_or, slice_set}
+use Rattle.std.specs.Prelude.{ℕ, ◌+◌, ◌/◌, ◌%◌, ℤ, List, [], ◌∷◌, ◌++◌, Bool, true, false, ◌&&◌, ◌||◌, nat_lt, if◌then◌else◌, replicate, slice_index_or, slice_set}
 use Rattle.sal_base.specs.Samples.{listed}
 use Rattle.sal_bool.specs.Syntax.{Syntax, Done, ◌>>=◌, bit_of}
+use Rattle.sal_macroblock.specs.Blocks.{no_levels}
 use Rattle.sal_tokens.specs.Levels.{block}
-
--- a block's index among the 25 of a macroblock, its kind, and its places in the rows of contexts above and left
-pub record Place : Type 0 where
-  pub index : ℕ
-  pub kind : ℕ
-  pub above : ℕ
-  pub left : ℕ
+use Rattle.sal_tokens.specs.declared.places.Place.{Place}
 
 abbrev pub place : ℕ → ℕ → ℕ → ℕ → Place
 place index kind above left = record { index = index; kind = kind; above = above; left = left }
@@ -23,6 +18,11 @@ places has_y2 =
     ++ listed 4 (λ i. place (16 + i) 2 (4 + i % 2) (4 + i / 2))
     ++ listed 4 (λ i. place (20 + i) 2 (6 + i % 2) (6 + i / 2))
 
+-- each of these is one of the 25 blocks and of the four kinds, with one of nine contexts on either side
+abbrev pub are_places : List Place → Bool
+are_places [] = true
+are_places (p ∷ ps) = nat_lt p.index 25 && nat_lt p.kind 4 && nat_lt p.above 9 && nat_lt p.left 9 && are_places ps
+
 -- levels by block, whether some block's first token isn't the end, and the contexts that the blocks leave
 pub record Tokens : Type 0 where
   pub levels : List (List ℤ)
@@ -30,8 +30,8 @@ pub record Tokens : Type 0 where
   pub above : List Bool
   pub left : List Bool
 
-abbrev pub no_levels : List (List ℤ)
-no_levels = replicate 25 (replicate 16 (pos 0))
+abbrev pub tokens : List (List ℤ) → Bool → List Bool → List Bool → Tokens
+tokens levels some above left = record { levels = levels; some = some; above = above; left = left }
 
 -- outside the picture no block has a level
 abbrev pub no_contexts : List Bool
@@ -55,7 +55,7 @@ blocks coefficients (p ∷ ps) t = block coefficients p.kind (context t p) >>= �
 -- a macroblock that isn't skipped; without Y2 the contexts of Y2 stay as they were
 unfoldable pub macroblock : List ℕ → Bool → List Bool → List Bool → Syntax Tokens
 macroblock coefficients has_y2 above left =
-    blocks coefficients (places has_y2) (record { levels = no_levels; some = false; above = above; left = left })
+    blocks coefficients (places has_y2) (tokens no_levels false above left)
 
 -- a skipped macroblock clears contexts, that of Y2 only where it has Y2
 abbrev pub cleared : Bool → List Bool → List Bool

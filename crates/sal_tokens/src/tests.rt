@@ -1,8 +1,8 @@
 //! Blocks read from bytes at the default probabilities; the values are an independent program's.
 
-use crate::read_block;
+use crate::{Contexts, read_block, read_macroblock, skip_macroblock};
 use sal_bool::Decoder;
-use sal_macroblock::Block;
+use sal_macroblock::{Block, Levels};
 use sal_probs::Probs;
 use std::alloc::Global;
 
@@ -127,4 +127,155 @@ fn past_the_end_are_zero_bytes(rt: HostRuntime) {
             Some((Block([0; 16]), false))
         );
     }
+}
+
+/// A macroblock's bytes, whether it has Y2, the contexts above and left, the first levels of its blocks, of which the others are 0,
+/// and the contexts that it leaves.
+type Whole = (
+    &'static [u8],
+    bool,
+    [[bool; 9]; 2],
+    [&'static [i32]; 25],
+    [[bool; 9]; 2],
+);
+
+const NO: bool = false;
+
+const YES: bool = true;
+
+const MACROBLOCKS: [Whole; 2] = [
+    (
+        &[
+            219, 188, 110, 135, 224, 247, 126, 202, 88, 52, 45, 219, 205, 57, 68, 143, 44, 92, 200,
+            176, 147, 223, 80, 148,
+        ],
+        true,
+        [[NO; 9], [NO; 9]],
+        [
+            &[],
+            &[],
+            &[],
+            &[],
+            &[],
+            &[],
+            &[],
+            &[],
+            &[],
+            &[0, -1],
+            &[0, -1, -1, -1],
+            &[0, 0, -1],
+            &[],
+            &[0, -1],
+            &[0, 0, 0, 1],
+            &[0, -2, -1],
+            &[-1],
+            &[],
+            &[-1],
+            &[0, 0, 0, 0, 0, -1],
+            &[],
+            &[],
+            &[1],
+            &[],
+            &[1],
+        ],
+        [
+            [NO, YES, YES, YES, YES, YES, YES, NO, YES],
+            [NO, NO, YES, YES, NO, YES, NO, NO, YES],
+        ],
+    ),
+    (
+        &[
+            131, 248, 220, 73, 216, 113, 217, 211, 27, 32, 40, 111, 248, 203, 55, 49, 40, 201, 3,
+            194, 253, 181, 212, 195,
+        ],
+        false,
+        [
+            [YES, NO, YES, YES, NO, YES, YES, NO, YES],
+            [NO, YES, YES, NO, YES, YES, NO, YES, YES],
+        ],
+        [
+            &[0, 0, -1],
+            &[1, 0, -1, -1],
+            &[-3, -1],
+            &[],
+            &[1, -1, -1],
+            &[-2, 0, 0, 1],
+            &[-1, 0, -1, 0, 0, 0, 0, -1],
+            &[],
+            &[5],
+            &[],
+            &[],
+            &[],
+            &[],
+            &[],
+            &[],
+            &[],
+            &[],
+            &[1],
+            &[],
+            &[],
+            &[],
+            &[],
+            &[-1],
+            &[1],
+            &[],
+        ],
+        [
+            [NO, NO, NO, NO, NO, NO, YES, YES, YES],
+            [NO, NO, NO, NO, YES, NO, NO, YES, YES],
+        ],
+    ),
+];
+
+/// What is read of a macroblock at the default probabilities, or none for want of memory: whether some block has levels, the
+/// contexts above and left, and the levels.
+fn read_whole(alloc: Global, row: &Whole) -> Option<(bool, Contexts, Contexts, Levels)> {
+    let (bytes, has_y2, before, _, _) = row;
+    let probs = Probs::initial(alloc).ok()?;
+    let mut above = Contexts(before[0]);
+    let mut left = Contexts(before[1]);
+    let mut levels = Levels::none();
+    let some = read_macroblock(
+        &mut Decoder::new(bytes),
+        &probs,
+        *has_y2,
+        &mut above,
+        &mut left,
+        &mut levels,
+    );
+    Some((some, above, left, levels))
+}
+
+/// Whether a block has these first levels, and then zeros.
+fn begins(block: &Block, first: &[i32]) -> bool {
+    block
+        .0
+        .iter()
+        .enumerate()
+        .all(|(i, level)| *level == first.get(i).copied().unwrap_or(0))
+}
+
+#[test]
+fn levels_of_macroblocks(rt: HostRuntime) {
+    for row in MACROBLOCKS {
+        let Some((some, above, left, levels)) = read_whole(rt.alloc(), &row) else {
+            panic!(rt; "no memory");
+        };
+        assert!(rt; some);
+        assert_eq!(rt; (above, left), (Contexts(row.4[0]), Contexts(row.4[1])));
+        for (index, first) in row.3.iter().enumerate() {
+            assert!(rt; begins(levels.block(index), first), "block {index}");
+        }
+    }
+}
+
+#[test]
+fn skipped_macroblocks_clear_contexts(rt: HostRuntime) {
+    let mut above = Contexts([true; 9]);
+    let mut left = Contexts::none();
+    skip_macroblock(false, &mut above, &mut left);
+    assert_eq!(rt; above, Contexts([NO, NO, NO, NO, NO, NO, NO, NO, YES]));
+    assert_eq!(rt; left, Contexts::none());
+    skip_macroblock(true, &mut above, &mut left);
+    assert_eq!(rt; above, Contexts::none());
 }

@@ -1,0 +1,69 @@
+-- The blocks of a macroblock, one by one, by a decoder's numbers.
+use Rattle.std.proofs.Common.{◌≡◌, ℕ, suc, zero, ◌+◌, ◌<◌, ◌≤◌, ◌∙◌, ℤ, List, [], ◌∷◌, Bool, true, false, ◌&&◌, ◌||◌, length, refl, sym, ap, arith, get_or, drop, drop-cons, add-one, slice_set}
+use Rattle.std.proofs.lemmas.Bool.{ltb-true}
+use Rattle.std.proofs.lemmas.List.{drop_all}
+use Rattle.sal_bool.specs.Reading.{Reading}
+use Rattle.sal_bool.specs.Syntax.{run, bit_of}
+use Rattle.sal_bool.proofs.Meaning.{run_on, run_done}
+use Rattle.sal_tokens.specs.Levels.{block}
+use Rattle.sal_tokens.specs.Blocks.{Tokens, tokens, is_set, context, with_block, blocks, are_places}
+use Rattle.sal_tokens.specs.declared.places.Place.{Place}
+
+-- one block more is read
+blocks_step : (cs : List ℕ) (ps qs : List Place) (p : Place) (t : Tokens) (b : List ℤ × Bool) (r r' : Reading) (end : Tokens × Reading)
+    → ps ≡ p ∷ qs → run (block cs p.kind (context t p)) r ≡ (b, r') → run (blocks cs ps t) r ≡ end → run (blocks cs qs (with_block t p b)) r' ≡ end
+unfolding blocks
+blocks_step cs ps qs p t b r r' end e h all =
+    sym (ap (λ xs. run (blocks cs xs t) r) e ∙ run_on (block cs p.kind (context t p)) _ r b r' h) ∙ all
+
+-- the same, with what the calls of a loop's body say
+pub block_read : (cs : List ℕ) (ps : List Place) (i : ℕ) (d : Place) (levels levels' : List (List ℤ)) (some b : Bool) (above above' left left' : List Bool) (x y : ℕ) (zs : List ℤ) (r r' : Reading) (end : Tokens × Reading)
+    → i < length ps
+    → x ≡ bit_of (is_set above (get_or ps i d).above)
+    → y ≡ bit_of (is_set left (get_or ps i d).left)
+    → run (block cs (get_or ps i d).kind (x + y)) r ≡ ((zs, b), r')
+    → levels' ≡ slice_set levels (get_or ps i d).index zs
+    → above' ≡ slice_set above (get_or ps i d).above b
+    → left' ≡ slice_set left (get_or ps i d).left b
+    → run (blocks cs (drop i ps) (tokens levels some above left)) r ≡ end
+    → run (blocks cs (drop (i + 1) ps) (tokens levels' (some || b) above' left')) r' ≡ end
+block_read cs ps i d levels levels' some b above above' left left' x y zs r r' end lt ex ey h el ea ef all =
+    let p : Place = get_or ps i d in
+    let t : Tokens = tokens levels some above left in
+    let pair : List ℤ × Bool = (zs, b) in
+    let e : drop i ps ≡ p ∷ drop (i + 1) ps = rw add-one (drop-cons ps i d lt) in
+    let same : context t p ≡ x + y = ap (λ n. n + bit_of (is_set left p.left)) (sym ex) ∙ ap (λ n. x + n) (sym ey) in
+    let called : run (block cs p.kind (context t p)) r ≡ (pair, r') = ap (λ n. run (block cs p.kind n) r) same ∙ h in
+    let more : run (blocks cs (drop (i + 1) ps) (with_block t p pair)) r' ≡ end = blocks_step cs (drop i ps) (drop (i + 1) ps) p t pair r r' end e called all in
+    let after : tokens levels' (some || b) above' left' ≡ with_block t p pair =
+    ap (λ zs'. tokens zs' (some || b) above' left') el ∙ (ap (λ bs. tokens (slice_set levels p.index zs) (some || b) bs left') ea ∙ ap (λ bs. tokens (slice_set levels p.index zs) (some || b) (slice_set above p.above b) bs) ef) in
+    ap (λ t'. run (blocks cs (drop (i + 1) ps) t') r') after ∙ more
+
+-- all are read
+pub blocks_end : (cs : List ℕ) (ps : List Place) (i : ℕ) (t : Tokens) (r : Reading) (end : Tokens × Reading)
+    → length ps ≤ i → run (blocks cs (drop i ps) t) r ≡ end → end ≡ (t, r)
+unfolding blocks
+blocks_end cs ps i t r end le h = sym h ∙ (ap (λ qs. run (blocks cs qs t) r) (drop_all i ps le) ∙ run_done t r)
+
+both : (a b : Bool) → (a && b) ≡ true → (a ≡ true) × (b ≡ true)
+both true true h = (refl, refl)
+both true false h = cc
+both false b h = cc
+
+pub record IsPlace (p : Place) : Type 0 where
+  pub index : p.index < 25
+  pub kind : p.kind ≤ 3
+  pub above : p.above < 9
+  pub left : p.left < 9
+
+-- a test over all places, at one of them
+pub place_at : (ps : List Place) (i : ℕ) (d : Place) → are_places ps ≡ true → i < length ps → IsPlace (get_or ps i d)
+place_at [] i d h lt = absurd (omega arith)
+place_at (p ∷ ps) zero d h lt =
+    let e = both _ _ h in
+    let f = both _ _ e.0 in
+    let g = both _ _ f.0 in
+    let k = both _ _ g.0 in
+    let four : p.kind < 4 = ltb-true _ _ k.1 in
+    record { index = ltb-true _ _ k.0; kind = omega arith; above = ltb-true _ _ g.1; left = ltb-true _ _ f.1 }
+place_at (p ∷ ps) (suc i) d h lt = place_at ps i d (both _ _ h).1 (omega arith)
