@@ -14,6 +14,9 @@ pub record Macroblock : Type 0 where
   pub levels : List (List ℤ)
   pub some : Bool
 
+abbrev pub macroblock : MbMode → List (List ℤ) → Bool → Macroblock
+macroblock mode levels some = record { mode = mode; levels = levels; some = some }
+
 -- a frame: its header, the size of its picture, and its macroblocks in raster order
 pub record Record : Type 0 where
   pub header : Header

@@ -2,10 +2,22 @@
 //! and the picture that follow from it.
 #![tactic(auto)]
 
+mod adding;
 mod after;
+mod build;
 mod cropping;
+mod edges;
+mod heads;
+mod intra;
 mod next;
+mod residue;
+mod square;
+mod steps;
+mod subs;
 
 pub use after::refreshes;
+pub use build::build_intra;
 pub use cropping::crop;
+pub use heads::{filter_head, info_of};
 pub use next::next_state;
+pub use steps::{Steps, segment_steps};

@@ -1,0 +1,17 @@
+-- Squares of samples in flat planes.
+use Rattle.std.proofs.Common.{◌≡◌, ℕ, suc, zero, ◌+◌, ◌*◌, ◌-◌, ◌≤◌, ◌<◌, ◌∙◌, List, [], ◌∷◌, ◌++◌, refl, sym, ap, arith, add-one, length, get_or, slice_range}
+use Rattle.std.proofs.Math.Nat.{mul-le-mul_right}
+use borrow.Rule.Slice.PartMut.{put_mid}
+use Rattle.sal_base.specs.Samples.{rows_put, pasted}
+
+-- one row more
+pub rows_more : (width x y side : ℕ) (block samples now ys : List ℕ) (row k : ℕ) → now ≡ rows_put width x y side block row samples → k ≡ side
+    → ys ≡ slice_range block (side * row) (side * row + side) → put_mid ((y + row) * width + x) k now ys ≡ rows_put width x y side block (row + 1) samples
+unfolding rows_put
+rows_more width x y side block samples now ys row k h four e = rw (add-one, four, e, h) refl
+
+-- a row of a square ends within so many rows
+pub row_within : (y row side width : ℕ) → row < side → (y + row) * width + width ≤ (y + side) * width
+row_within y row side width lt =
+    let le : (y + row) + 1 ≤ y + side = omega arith in
+    omega (arith, mul-le-mul_right width le)

@@ -1,0 +1,11 @@
+use Rattle.std.proofs.Common.{◌≡◌, ◌*◌, ◌/◌, ◌%◌, length, get_or}
+use Rattle.sal_frame.specs.Built.{sum_cut}
+use Rattle.sal_frame.specs.Residues.{residue_at}
+use Rattle.sal_frame.proofs.Sums.{RowsDone}
+use Rattle.sal_frame.proofs.adding.add_luma.Given as goal
+
+abbrev pub invariant-loop-row : goal.invariant-loop-row
+invariant-loop-row l = record {
+  long : length l.samples ≡ 256;
+  rows : RowsDone 16 l.row (λ j. sum_cut (get_or l.fn.samples j 0) (residue_at 4 l.residues (j / 16) (j % 16))) (λ j. get_or l.fn.samples j 0) l.samples;
+}

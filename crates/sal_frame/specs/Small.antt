@@ -1,0 +1,15 @@
+-- How large steps are, and blocks of one level.
+use Rattle.std.specs.Prelude.{◌≡◌, ◌<◌, ◌≤◌, ℕ, ℤ, pos, List, slice_index_or}
+use Rattle.sal_transform.specs.Steps.{Steps}
+
+pub record AreSmall (s : Steps) : Type 0 where
+  pub y_dc : s.y_dc ≤ 440
+  pub y_ac : s.y_ac ≤ 440
+  pub y2_dc : s.y2_dc ≤ 440
+  pub y2_ac : s.y2_ac ≤ 440
+  pub uv_dc : s.uv_dc ≤ 440
+  pub uv_ac : s.uv_ac ≤ 440
+
+-- all levels but the first are 0
+abbrev pub HasOneLevel : List ℤ → Type 0
+HasOneLevel zs = (k : ℕ) → 1 ≤ k → k < 16 → slice_index_or zs k (pos 0) ≡ pos 0

@@ -1,0 +1,42 @@
+//! What the loop filter is told of a frame and of its macroblocks (RFC 6386, sections 9.3, 9.6 and 15).
+
+ghost use Rattle.std.specs.Prelude.{◌≡◌, List, ℤ};
+ghost use Rattle.sal_frame.specs.Records.{filter_head, info_of, macroblock};
+
+use sal_filter::{FilterHead, MbInfo};
+use sal_header::Header;
+use sal_macroblock::MbMode;
+
+/// The loop filter's settings in a frame.
+#[tactic(auto, unfolding(crate::specs::Records::filter_head))]
+pub fn filter_head(header: &Header) -> FilterHead
+    ensures { result ≡ filter_head header.now }
+{
+    FilterHead {
+        key: header.key,
+        simple: header.simple,
+        level: header.level,
+        sharpness: header.sharpness,
+        segments: if header.segmentation {
+            Some((header.absolute, header.levels))
+        } else {
+            None
+        },
+        deltas: if header.deltas {
+            Some((header.ref_deltas, header.mode_deltas))
+        } else {
+            None
+        },
+    }
+}
+
+/// What the loop filter needs of a macroblock, which has some block whose first token isn't the end, or none.
+#[tactic(auto, unfolding(crate::specs::Records::info_of))]
+pub fn info_of(mode: &MbMode, some: bool) -> MbInfo
+    ensures { (levels : List (List ℤ)) → result ≡ info_of (macroblock mode.now levels some) }
+{
+    MbInfo {
+        mode: *mode,
+        inner: !mode.has_y2() || (!mode.skip && some),
+    }
+}

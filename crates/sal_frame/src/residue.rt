@@ -1,0 +1,136 @@
+//! The residues of a macroblock: its levels times their steps, transformed back (RFC 6386, section 14).
+
+ghost use Rattle.std.specs.Prelude.{◌≡◌, ◌<◌, ◌≤◌, ◌+◌, ◌*ℤ◌, ℕ, Bool, List, ℤ, pos, All, IsTrue, replicate, slice_index_or, []};
+ghost use Rattle.sal_macroblock.specs.Sizes.{Within};
+ghost use Rattle.sal_transform.specs.Inverse.{rounded};
+ghost use Rattle.sal_transform.specs.Residue.{residue_of, firsts_of, residue_after};
+ghost use Rattle.sal_frame.specs.Records.{macroblock};
+ghost use Rattle.sal_frame.specs.Residues.{firsts, luma_alone, luma_after, luma_residues, chroma_residues};
+ghost use Rattle.sal_base.specs.Samples.{listed};
+ghost use Rattle.sal_macroblock.specs.declared.mode.MbMode.{MbMode};
+ghost use Rattle.sal_frame.specs.Small.{HasOneLevel};
+
+use crate::steps::Steps;
+use sal_macroblock::{Block, Levels, MbMode};
+use sal_transform::{dequant, inverse, inverse_y2};
+
+// Whether all levels but the first are 0.
+fn has_one_level(block: &Block) -> bool
+    ensures { IsTrue result → HasOneLevel block.now.0 }
+{
+    for k in 1..16usize {
+        if block.0[k] != 0 {
+            return false;
+        }
+    }
+    true
+}
+
+// The residues of a block of which only the first value isn't 0.
+#[tactic(auto, unfolding(sal_transform::specs::Inverse::rounded))]
+fn flat(value: i32) -> [i32; 16]
+    requires { Within 2097152 value }
+    ensures { result ≡ replicate 16 (rounded value) }
+{
+    [(value + 4) >> 3; 16]
+}
+
+// A level times its step.
+fn stepped(level: i32, step: u16) -> i32
+    requires level { Within 2114 level }
+    requires step { step ≤ 440 }
+    ensures value { result ≡ level *ℤ pos step }
+    ensures small { Within 2097152 result }
+{
+    level * step as i32
+}
+
+// The residues of a block whose first level is its own.
+fn residue(block: &Block, dc: u16, ac: u16) -> [i32; 16]
+    requires levels { All (Within 2114) block.now.0 }
+    requires dc { dc ≤ 440 }
+    requires ac { ac ≤ 440 }
+    ensures { result ≡ residue_of block.now.0 (pos dc) (pos ac) }
+{
+    if has_one_level(block) {
+        return flat(stepped(block.0[0], dc));
+    }
+    inverse(&dequant(block, dc as i32, ac as i32))
+}
+
+// The residues of a luma block whose first value comes from Y2.
+fn residue_after(first: i32, block: &Block, ac: u16) -> [i32; 16]
+    requires first { Within 2097152 first }
+    requires levels { All (Within 2114) block.now.0 }
+    requires ac { ac ≤ 440 }
+    ensures { result ≡ residue_after first block.now.0 (pos ac) }
+{
+    if has_one_level(block) {
+        return flat(first);
+    }
+    let mut values = dequant(block, 0, ac as i32);
+    values[0] = first;
+    inverse(&values)
+}
+
+// The first values of the luma blocks, out of Y2.
+fn firsts(levels: &Levels, dc: u16, ac: u16) -> [i32; 16]
+    requires dc { dc ≤ 440 }
+    requires ac { ac ≤ 440 }
+    ensures value { result ≡ firsts_of (slice_index_or levels.now 24 []) (pos dc) (pos ac) }
+    ensures small { All (Within 2097152) result }
+{
+    inverse_y2(&dequant(levels.block(24), dc as i32, ac as i32))
+}
+
+// The luma blocks with their own first levels.
+fn luma_alone(levels: &Levels, dc: u16, ac: u16) -> [[i32; 16]; 16]
+    requires dc { dc ≤ 440 }
+    requires ac { ac ≤ 440 }
+    ensures { result ≡ listed 16 (λ k. residue_of (slice_index_or levels.now k []) (pos dc) (pos ac)) }
+{
+    let mut residues = [[0; 16]; 16];
+    for k in 0..16usize {
+        residues[k] = residue(levels.block(k), dc, ac);
+    }
+    residues
+}
+
+// The luma blocks with first values out of Y2.
+fn luma_after(levels: &Levels, firsts: &[i32; 16], ac: u16) -> [[i32; 16]; 16]
+    requires firsts { All (Within 2097152) firsts.now }
+    requires ac { ac ≤ 440 }
+    ensures { result ≡ listed 16 (λ k. residue_after (slice_index_or firsts.now k (pos 0)) (slice_index_or levels.now k []) (pos ac)) }
+{
+    let mut residues = [[0; 16]; 16];
+    for k in 0..16usize {
+        residues[k] = residue_after(firsts[k], levels.block(k), ac);
+    }
+    residues
+}
+
+/// The sixteen luma blocks of a macroblock in raster order, each with its residues in raster order.
+pub(crate) fn luma_residues(mode: &MbMode, levels: &Levels, steps: &Steps) -> [[i32; 16]; 16]
+    ensures { (some : Bool) → result ≡ luma_residues steps.now (macroblock mode.now levels.now some) }
+{
+    if mode.has_y2() {
+        let firsts = firsts(levels, steps.y2_dc, steps.y2_ac);
+        luma_after(levels, &firsts, steps.y_ac)
+    } else {
+        luma_alone(levels, steps.y_dc, steps.y_ac)
+    }
+}
+
+/// The four blocks of a macroblock in a chroma plane, of U from block 16 on, of V from block 20 on.
+pub(crate) fn chroma_residues(levels: &Levels, first: usize, steps: &Steps) -> [[i32; 16]; 4]
+    requires { first ≤ 20 }
+    ensures { (mode : MbMode) (some : Bool) → result ≡ chroma_residues steps.now (macroblock mode levels.now some) first }
+{
+    let dc = steps.uv_dc;
+    let ac = steps.uv_ac;
+    let mut residues = [[0; 16]; 4];
+    for k in 0..4usize {
+        residues[k] = residue(levels.block(first + k), dc, ac);
+    }
+    residues
+}
