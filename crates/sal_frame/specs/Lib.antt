@@ -5,3 +5,4 @@ pub mod Residues
 pub mod Refreshing
 pub mod Small
 pub mod Intra
+pub mod Inter

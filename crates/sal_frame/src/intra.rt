@@ -9,9 +9,7 @@ ghost use Rattle.sal_frame.specs.Intra.{intra_luma, intra_chroma};
 ghost use Rattle.sal_frame.specs.Records.{macroblock};
 ghost use Rattle.sal_frame.specs.Residues.{luma_residues, chroma_residues, residue_at};
 
-use crate::adding::{add_chroma, add_luma};
-use crate::residue::{chroma_residues, luma_residues};
-use crate::square::are_bytes;
+use crate::finish::{finish_chroma, finish_luma};
 use crate::steps::Steps;
 use crate::subs::subs_built;
 use sal_base::YMode;
@@ -31,11 +29,7 @@ fn whole_luma(
     ensures { result ≡ added 16 256 (whole_sample mode.now.y (luma_edge edge.now)) (residue_at 4 (luma_residues steps.now (macroblock mode.now levels.now some))) }
 {
     let mut samples = predict_luma(mode.y, edge);
-    if !some {
-        are_bytes(&samples);
-        return samples;
-    }
-    add_luma(&mut samples, &luma_residues(mode, levels, steps));
+    finish_luma(&mut samples, mode, levels, some, steps);
     samples
 }
 
@@ -72,10 +66,6 @@ pub(crate) fn intra_chroma(
     ensures { result ≡ intra_chroma steps.now (macroblock mode.now levels.now some) first edge.now }
 {
     let mut samples = predict_chroma(mode.chroma, edge);
-    if !some {
-        are_bytes(&samples);
-        return samples;
-    }
-    add_chroma(&mut samples, &chroma_residues(levels, first, steps));
+    finish_chroma(&mut samples, mode, levels, some, first, steps);
     samples
 }

@@ -7,7 +7,9 @@ mod after;
 mod build;
 mod cropping;
 mod edges;
+mod finish;
 mod heads;
+mod inter;
 mod intra;
 mod next;
 mod residue;
@@ -16,7 +18,7 @@ mod steps;
 mod subs;
 
 pub use after::refreshes;
-pub use build::build_intra;
+pub use build::{build_inter, build_intra};
 pub use cropping::crop;
 pub use heads::{filter_head, info_of};
 pub use next::next_state;
