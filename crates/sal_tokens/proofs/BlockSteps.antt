@@ -1,11 +1,12 @@
 -- The blocks of a macroblock, one by one, by a decoder's numbers.
-use Rattle.std.proofs.Common.{◌≡◌, ℕ, suc, zero, ◌+◌, ◌<◌, ◌≤◌, ◌∙◌, ℤ, List, [], ◌∷◌, Bool, true, false, ◌&&◌, ◌||◌, length, refl, sym, ap, arith, get_or, drop, drop-cons, add-one, slice_set}
+use Rattle.std.proofs.Common.{◌≡◌, ℕ, suc, zero, ◌+◌, ◌<◌, ◌≤◌, ◌∙◌, ◌-◌, ◌==◌, ℤ, pos, replicate, if◌then◌else◌, List, [], ◌∷◌, Bool, true, false, ◌&&◌, ◌||◌, length, refl, sym, ap, arith, get_or, drop, drop-cons, add-one, slice_set}
 use Rattle.std.proofs.lemmas.Bool.{ltb-true}
-use Rattle.std.proofs.lemmas.List.{drop_all}
+use Rattle.std.proofs.lemmas.List.{drop_all, get_or-replicate, set-get_or}
+use Rattle.sal_macroblock.specs.Blocks.{no_levels}
 use Rattle.sal_bool.specs.Reading.{Reading}
-use Rattle.sal_bool.specs.Syntax.{run, bit_of}
-use Rattle.sal_bool.proofs.Meaning.{run_on, run_done}
-use Rattle.sal_tokens.specs.Levels.{block}
+use Rattle.sal_bool.specs.Syntax.{Done, run, bit_of}
+use Rattle.sal_bool.proofs.Meaning.{run_then, run_on, run_done}
+use Rattle.sal_tokens.specs.Levels.{first_position, levels, filled_block, is_some_level, block}
 use Rattle.sal_tokens.specs.Blocks.{Tokens, tokens, is_set, context, with_block, blocks, are_places}
 use Rattle.sal_tokens.specs.declared.places.Place.{Place}
 
@@ -67,3 +68,36 @@ place_at (p ∷ ps) zero d h lt =
     let four : p.kind < 4 = ltb-true _ _ k.1 in
     record { index = ltb-true _ _ k.0; kind = omega arith; above = ltb-true _ _ g.1; left = ltb-true _ _ f.1 }
 place_at (p ∷ ps) (suc i) d h lt = place_at ps i d (both _ _ h).1 (omega arith)
+
+none_filled : (first : ℕ) (b : Bool) (ls : List ℤ) → first ≡ (if b then 1 else 0) → is_some_level ls ≡ false → filled_block first ls ≡ replicate 16 (pos 0)
+none_filled first true [] e h = ap (λ (n : ℕ). filled_block n []) e
+none_filled first false [] e h = ap (λ (n : ℕ). filled_block n []) e
+none_filled first b (z ∷ zs) e h = cc
+
+-- a block whose first token is the end has no levels
+none_read : (cs : List ℕ) (kind c : ℕ) (r : Reading) (zs : List ℤ) (b : Bool) (r' : Reading) → run (block cs kind c) r ≡ ((zs, b), r') → b ≡ false → zs ≡ replicate 16 (pos 0)
+unfolding block
+none_read cs kind c r zs b r' h e =
+    let first : ℕ = first_position kind in
+    let read = levels cs kind (16 - first) c false in
+    let ls : List ℤ = (run read r).0 in
+    let done : run (block cs kind c) r ≡ ((filled_block first ls, is_some_level ls), (run read r).1) = run_then read (λ us. Done (filled_block first us, is_some_level us)) r ∙ run_done (filled_block first ls, is_some_level ls) (run read r).1 in
+    let same : ((zs, b), r') ≡ ((filled_block first ls, is_some_level ls), (run read r).1) = sym h ∙ done in
+    let some : is_some_level ls ≡ false = sym (ap (λ (y : (List ℤ × Bool) × Reading). y.0.1) same) ∙ e in
+    ap (λ (y : (List ℤ × Bool) × Reading). y.0.0) same ∙ none_filled first (kind == 0) ls refl some
+
+neither : (a b : Bool) → (a || b) ≡ false → (a ≡ false) × (b ≡ false)
+neither true b h = cc
+neither false b h = (refl, h)
+
+-- where all blocks so far begin with the end there are no levels
+pub none_more : (cs : List ℕ) (kind c : ℕ) (r r' : Reading) (levels levels' : List (List ℤ)) (zs : List ℤ) (some b : Bool) (i : ℕ) → i < 25 → (some || b) ≡ false
+    → (some ≡ false → levels ≡ no_levels) → levels' ≡ slice_set levels i zs → run (block cs kind c) r ≡ ((zs, b), r') → levels' ≡ no_levels
+none_more cs kind c r r' levels levels' zs some b i lt e none put h =
+    let both_none = neither some b e in
+    let zeros : List ℤ = replicate 16 (pos 0) in
+    let here : get_or no_levels i [] ≡ zeros = get_or-replicate 25 i zeros [] lt in
+    put
+    ∙ (ap (λ (ls : List (List ℤ)). slice_set ls i zs) (none both_none.0)
+    ∙ (ap (λ (ys : List ℤ). slice_set no_levels i ys) (none_read cs kind c r zs b r' h both_none.1 ∙ sym here)
+    ∙ set-get_or no_levels i []))

@@ -1,6 +1,7 @@
 //! Reads the levels of all blocks of a macroblock (RFC 6386, sections 13 and 19.3).
 
-ghost use Rattle.std.specs.Prelude.{◌≡◌, ℕ, List};
+ghost use Rattle.std.specs.Prelude.{◌≡◌, ℕ, List, false};
+ghost use Rattle.sal_macroblock.specs.Blocks.{no_levels};
 ghost use Rattle.sal_bool.specs.Bits.{Interval};
 ghost use Rattle.sal_bool.specs.Reading.{StandsFor};
 ghost use Rattle.sal_bool.specs.Syntax.{run, read};
@@ -27,6 +28,7 @@ pub fn read_macroblock(
 ) -> bool
     ensures reads { run (macroblock probs.now.coefficients has_y2 above.old.0 left.old.0) decoder.old ≡ (tokens levels.new result above.new.0 left.new.0, decoder.new) }
     ensures exact { (bytes : List ℕ) (i : Interval) → StandsFor bytes i decoder.old → (tokens levels.new result above.new.0 left.new.0 ≡ (read bytes i (macroblock probs.now.coefficients has_y2 above.old.0 left.old.0)).0) × StandsFor bytes (read bytes i (macroblock probs.now.coefficients has_y2 above.old.0 left.old.0)).1 decoder.new }
+    ensures none { result ≡ false → levels.new ≡ no_levels }
 {
     levels.clear();
     let mut some = false;
