@@ -12,6 +12,7 @@ mod heads;
 mod inter;
 mod intra;
 mod next;
+mod raster;
 mod residue;
 mod square;
 mod steps;
@@ -22,4 +23,8 @@ pub use build::{build_inter, build_intra};
 pub use cropping::crop;
 pub use heads::{filter_head, info_of};
 pub use next::next_state;
+pub use raster::{one_macroblock_more, sizes_stay};
 pub use steps::{Steps, segment_steps};
+
+#[cfg(test)]
+mod tests;

@@ -1,0 +1,218 @@
+//! Single macroblocks, whose samples are by hand from the rules of RFC 6386, and what is read out of a header.
+
+ghost use Rattle.std.specs.Prelude.{◌≡◌, IfOk};
+ghost use Rattle.sal_base.specs.Picture.{IsPlane};
+ghost use Rattle.sal_state.specs.States.{HasBlocks};
+
+use crate::{build_inter, build_intra, filter_head, info_of, segment_steps};
+use sal_base::{Bytes, Memory, Plane, Planes, SubMode, Vector, YMode};
+use sal_filter::FilterHead;
+use sal_header::Header;
+use sal_macroblock::{Block, Levels, MbMode, RefKind};
+use sal_probs::Updates;
+use std::alloc::Global;
+use std::test::Fail;
+
+/// A square whose sample at a row and column is eight times the row and the column.
+fn slope(alloc: Global, side: u16) -> Result<Plane, Memory>
+    requires { side ≤ 16 }
+    ensures { IfOk result (IsPlane side side) }
+{
+    let mut samples = vec![in alloc; 0u8; side as usize * side as usize]?;
+    for (k, sample) in samples.iter_mut().enumerate() {
+        if side != 0 {
+            let (row, column) = (k / side as usize % 16, k % side as usize % 16);
+            *sample = (8 * row + column) as u8;
+        }
+    }
+    Ok(Plane {
+        width: side,
+        height: side,
+        samples: Bytes::from_vec(samples),
+    })
+}
+
+/// One macroblock of such squares.
+fn planes(alloc: Global) -> Result<Planes, Memory>
+    ensures { IfOk result (HasBlocks 1 1) }
+{
+    Ok(Planes {
+        y: slope(alloc, 16)?,
+        u: slope(alloc, 8)?,
+        v: slope(alloc, 8)?,
+    })
+}
+
+/// Three samples of a plane.
+fn at(plane: &Plane, places: [usize; 3]) -> [Option<u8>; 3] {
+    let samples = plane.samples.as_slice();
+    [
+        samples.get(places[0]).copied(),
+        samples.get(places[1]).copied(),
+        samples.get(places[2]).copied(),
+    ]
+}
+
+/// A block of one level.
+fn one_level(position: usize, level: i8) -> Block {
+    let mut block = Block([0; 16]);
+    block.0[position % 16] = level as i32;
+    block
+}
+
+fn header(segmentation: bool, absolute: bool) -> Header {
+    Header {
+        key: false,
+        shown: true,
+        colour: false,
+        clamping: false,
+        segmentation,
+        update_map: false,
+        update_data: false,
+        absolute,
+        simple: true,
+        deltas: false,
+        update_deltas: false,
+        refresh_entropy: false,
+        refresh_golden: false,
+        refresh_alt: false,
+        bias_golden: false,
+        bias_alt: false,
+        refresh_last: false,
+        skips: false,
+        quantisers: [3, -3, 20, -100],
+        levels: [1, 2, 3, 4],
+        ref_deltas: [0; 4],
+        mode_deltas: [0; 4],
+        map: [0; 3],
+        level: 9,
+        sharpness: 5,
+        log2: 0,
+        y_ac: 110,
+        copy_golden: 0,
+        copy_alt: 0,
+        prob_skip: 0,
+        prob_intra: 0,
+        prob_last: 0,
+        prob_golden: 0,
+        y_dc: 0,
+        y2_dc: 0,
+        y2_ac: 0,
+        uv_dc: 15,
+        uv_ac: -15,
+        updates: Updates::none(),
+    }
+}
+
+/// The six steps of a segment.
+fn steps(header: &Header, segment: u8) -> [u16; 6]
+    requires { segment < 4 }
+{
+    let steps = segment_steps(header, segment);
+    [
+        steps.y_dc,
+        steps.y_ac,
+        steps.y2_dc,
+        steps.y2_ac,
+        steps.uv_dc,
+        steps.uv_ac,
+    ]
+}
+
+fn mode(reference: RefKind, y: YMode, chroma: YMode, vectors: [Vector; 16]) -> MbMode
+    ensures reference { result.reference ≡ reference }
+    ensures y { result.y ≡ y }
+    ensures chroma { result.chroma ≡ chroma }
+{
+    MbMode {
+        segment: 1,
+        skip: false,
+        reference,
+        y,
+        sub: [SubMode::BDC; 16],
+        chroma,
+        vectors,
+    }
+}
+
+const ZERO: Vector = Vector { row: 0, column: 0 };
+
+#[test]
+fn steps_of_segments(rt: HostRuntime) {
+    assert_eq!(rt;
+        steps(&header(false, false), 0),
+        [116, 205, 232, 317, 132, 152]
+    );
+    assert_eq!(rt; steps(&header(true, true), 0), [7, 7, 14, 10, 20, 4]);
+    assert_eq!(rt; steps(&header(true, true), 1), [4, 4, 8, 8, 17, 4]);
+}
+
+#[test]
+fn heads_of_the_filter(rt: HostRuntime) {
+    let head = FilterHead {
+        key: false,
+        simple: true,
+        level: 9,
+        sharpness: 5,
+        segments: Some((false, [1, 2, 3, 4])),
+        deltas: None,
+    };
+    assert_eq!(rt; filter_head(&header(true, false)), head);
+    assert!(rt; info_of(&MbMode::outside(), true).inner);
+    assert!(rt; !info_of(&MbMode::outside(), false).inner);
+}
+
+#[test]
+fn intra_macroblocks(rt: HostRuntime) -> Result<(), Fail> {
+    let mut planes = planes(rt.alloc())?;
+    let steps = segment_steps(&header(true, true), 1);
+    let mut levels = Levels::none();
+    let whole = mode(RefKind::Intra, YMode::TM, YMode::V, [ZERO; 16]);
+    build_intra(&mut planes, &whole, &levels, false, &steps, 0, 0);
+    assert_eq!(rt; at(&planes.y, [0, 100, 255]), [Some(129); 3]);
+    assert_eq!(rt; at(&planes.u, [0, 20, 63]), [Some(127); 3]);
+    levels.put(0, one_level(1, 50));
+    levels.put(16, one_level(0, 5));
+    levels.put(23, one_level(0, -5));
+    let parts = mode(RefKind::Intra, YMode::B, YMode::DC, [ZERO; 16]);
+    build_intra(&mut planes, &parts, &levels, true, &steps, 0, 0);
+    assert_eq!(rt; at(&planes.y, [0, 1, 2]), [Some(161), Some(142), Some(115)]);
+    assert_eq!(rt;
+        at(&planes.u, [0, 27, 63]),
+        [Some(139), Some(139), Some(128)]
+    );
+    assert_eq!(rt;
+        at(&planes.v, [0, 36, 63]),
+        [Some(128), Some(117), Some(117)]
+    );
+    Ok(())
+}
+
+#[test]
+fn inter_macroblocks(rt: HostRuntime) -> Result<(), Fail> {
+    let from = planes(rt.alloc())?;
+    let mut planes = planes(rt.alloc())?;
+    let steps = segment_steps(&header(true, true), 1);
+    let levels = Levels::none();
+    let vector = Vector {
+        row: 8,
+        column: -16,
+    };
+    let whole = mode(RefKind::Golden, YMode::NEW, YMode::DC, [vector; 16]);
+    build_inter(&mut planes, &from, &whole, &levels, false, &steps, 0, 0);
+    assert_eq!(rt;
+        at(&planes.y, [0, 87, 255]),
+        [Some(16), Some(59), Some(131)]
+    );
+    assert_eq!(rt; at(&planes.u, [0, 28, 63]), [Some(8), Some(34), Some(61)]);
+    let mut vectors = [ZERO; 16];
+    vectors[5] = Vector { row: 32, column: 0 };
+    let parts = mode(RefKind::Last, YMode::SPLIT, YMode::DC, vectors);
+    build_inter(&mut planes, &from, &parts, &levels, false, &steps, 0, 0);
+    assert_eq!(rt;
+        at(&planes.y, [0, 68, 255]),
+        [Some(0), Some(100), Some(135)]
+    );
+    assert_eq!(rt; at(&planes.v, [0, 36, 63]), [Some(8), Some(36), Some(63)]);
+    Ok(())
+}
