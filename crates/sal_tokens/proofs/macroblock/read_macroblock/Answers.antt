@@ -10,8 +10,8 @@ pub loop-place-init : goal.loop-place-init
 unfolding macroblock
 loop-place-init c = record {
   reads =
-    ap (λ (ps : List Place). run (blocks c.args.probs.now.coefficients ps (tokens c.clear.new.self false c.args.above.now.0 c.args.left.now.0)) c.args.decoder.now) c.places-place-items.ensures.places
-    ∙ ap (λ (zs : List (List ℤ)). run (blocks c.args.probs.now.coefficients (places c.args.has_y2) (tokens zs false c.args.above.now.0 c.args.left.now.0)) c.args.decoder.now) c.clear.ensures;
+      ap (λ (ps : List Place). run (blocks c.args.probs.now.coefficients ps (tokens c.clear.new.self false c.args.above.now.0 c.args.left.now.0)) c.args.decoder.now) c.places-place-items.ensures.places
+      ∙ ap (λ (zs : List (List ℤ)). run (blocks c.args.probs.now.coefficients (places c.args.has_y2) (tokens zs false c.args.above.now.0 c.args.left.now.0)) c.args.decoder.now) c.clear.ensures;
   none = λ _. c.clear.ensures;
 }
 
@@ -36,10 +36,10 @@ set-requires-in-loop-place c = (place_at _ _ _ c.places-place-items.ensures.fit 
 pub loop-place-preserved : goal.loop-place-preserved
 loop-place-preserved c = record {
   reads =
-    block_read _ _ _ _ _ _ _ _ _ _ _ _ _ _ _ _ _ _ c.loop-place-test.true c.bit.ensures c.bit-in-loop-place.ensures c.read_block-starts.ensures.reads c.put.ensures c.set.ensures c.set-in-loop-place.ensures c.loop-place.invariant.reads;
+      block_read _ _ _ _ _ _ _ _ _ _ _ _ _ _ _ _ _ _ c.loop-place-test.true c.bit.ensures c.bit-in-loop-place.ensures c.read_block-starts.ensures.reads c.put.ensures c.set.ensures c.set-in-loop-place.ensures c.loop-place.invariant.reads;
   none = λ e. (
-    let place = place_at _ _ _ c.places-place-items.ensures.fit c.loop-place-test.true in
-    none_more _ _ _ _ _ _ _ _ _ _ _ place.index e c.loop-place.invariant.none c.put.ensures c.read_block-starts.ensures.reads);
+      let place = place_at _ _ _ c.places-place-items.ensures.fit c.loop-place-test.true in
+      none_more _ _ _ _ _ _ _ _ _ _ _ place.index e c.loop-place.invariant.none c.put.ensures c.read_block-starts.ensures.reads);
 }
 
 pub returns-clause-reads : goal.returns-clause-reads
