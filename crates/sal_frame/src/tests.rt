@@ -1,8 +1,12 @@
 //! Single macroblocks, whose samples are by hand from the rules of RFC 6386, and what is read out of a header.
 
-ghost use Rattle.std.specs.Prelude.{◌≡◌, IfOk};
+ghost use Rattle.std.specs.Prelude.{◌≡◌, ◌<◌, ◌≤◌, false, IfOk, All};
 ghost use Rattle.sal_base.specs.Picture.{IsPlane};
+ghost use Rattle.sal_macroblock.specs.Blocks.{no_levels};
+ghost use Rattle.sal_macroblock.specs.Sizes.{Within};
 ghost use Rattle.sal_state.specs.States.{HasBlocks};
+ghost use Rattle.sal_frame.specs.Inter.{IsInter};
+ghost use Rattle.sal_frame.specs.Intra.{IsIntra};
 
 use crate::{build_inter, build_intra, filter_head, info_of, segment_steps};
 use sal_base::{Bytes, Memory, Plane, Planes, SubMode, Vector, YMode};
@@ -54,9 +58,12 @@ fn at(plane: &Plane, places: [usize; 3]) -> [Option<u8>; 3] {
 }
 
 /// A block of one level.
-fn one_level(position: usize, level: i8) -> Block {
+fn one_level(position: usize, level: i32) -> Block
+    requires { Within 2114 level }
+    ensures { All (Within 2114) result.0 }
+{
     let mut block = Block([0; 16]);
-    block.0[position % 16] = level as i32;
+    block.0[position % 16] = level;
     block
 }
 
@@ -162,20 +169,29 @@ fn heads_of_the_filter(rt: HostRuntime) {
     assert!(rt; !info_of(&MbMode::outside(), false).inner);
 }
 
+/// An intra macroblock.
+fn intra(alloc: Global, mode: &MbMode, levels: &Levels, some: bool) -> Result<Planes, Memory>
+    requires mode { IsIntra mode.now }
+    requires none { some ≡ false → levels.now ≡ no_levels }
+{
+    let mut planes = planes(alloc)?;
+    let steps = segment_steps(&header(true, true), 1);
+    build_intra(&mut planes, mode, levels, some, &steps, 0, 0);
+    Ok(planes)
+}
+
 #[test]
 fn intra_macroblocks(rt: HostRuntime) -> Result<(), Fail> {
-    let mut planes = planes(rt.alloc())?;
-    let steps = segment_steps(&header(true, true), 1);
     let mut levels = Levels::none();
     let whole = mode(RefKind::Intra, YMode::TM, YMode::V, [ZERO; 16]);
-    build_intra(&mut planes, &whole, &levels, false, &steps, 0, 0);
+    let planes = intra(rt.alloc(), &whole, &levels, false)?;
     assert_eq!(rt; at(&planes.y, [0, 100, 255]), [Some(129); 3]);
     assert_eq!(rt; at(&planes.u, [0, 20, 63]), [Some(127); 3]);
     levels.put(0, one_level(1, 50));
     levels.put(16, one_level(0, 5));
     levels.put(23, one_level(0, -5));
     let parts = mode(RefKind::Intra, YMode::B, YMode::DC, [ZERO; 16]);
-    build_intra(&mut planes, &parts, &levels, true, &steps, 0, 0);
+    let planes = intra(rt.alloc(), &parts, &levels, true)?;
     assert_eq!(rt; at(&planes.y, [0, 1, 2]), [Some(161), Some(142), Some(115)]);
     assert_eq!(rt;
         at(&planes.u, [0, 27, 63]),
@@ -188,18 +204,34 @@ fn intra_macroblocks(rt: HostRuntime) -> Result<(), Fail> {
     Ok(())
 }
 
+/// An inter macroblock without levels.
+fn inter(alloc: Global, mode: &MbMode) -> Result<Planes, Memory>
+    requires { IsInter mode.now }
+{
+    let from = planes(alloc)?;
+    let mut planes = planes(alloc)?;
+    let steps = segment_steps(&header(true, true), 1);
+    build_inter(
+        &mut planes,
+        &from,
+        mode,
+        &Levels::none(),
+        false,
+        &steps,
+        0,
+        0,
+    );
+    Ok(planes)
+}
+
 #[test]
 fn inter_macroblocks(rt: HostRuntime) -> Result<(), Fail> {
-    let from = planes(rt.alloc())?;
-    let mut planes = planes(rt.alloc())?;
-    let steps = segment_steps(&header(true, true), 1);
-    let levels = Levels::none();
     let vector = Vector {
         row: 8,
         column: -16,
     };
     let whole = mode(RefKind::Golden, YMode::NEW, YMode::DC, [vector; 16]);
-    build_inter(&mut planes, &from, &whole, &levels, false, &steps, 0, 0);
+    let planes = inter(rt.alloc(), &whole)?;
     assert_eq!(rt;
         at(&planes.y, [0, 87, 255]),
         [Some(16), Some(59), Some(131)]
@@ -208,7 +240,7 @@ fn inter_macroblocks(rt: HostRuntime) -> Result<(), Fail> {
     let mut vectors = [ZERO; 16];
     vectors[5] = Vector { row: 32, column: 0 };
     let parts = mode(RefKind::Last, YMode::SPLIT, YMode::DC, vectors);
-    build_inter(&mut planes, &from, &parts, &levels, false, &steps, 0, 0);
+    let planes = inter(rt.alloc(), &parts)?;
     assert_eq!(rt;
         at(&planes.y, [0, 68, 255]),
         [Some(0), Some(100), Some(135)]
