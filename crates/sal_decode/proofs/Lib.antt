@@ -1,3 +1,4 @@
 mod Examples
+mod ModesRead
 mod SmallFrames
 mod WholeFrames
