@@ -1,6 +1,6 @@
 //! The next state (RFC 6386, sections 9.3, 9.6, 9.7 and 9.11).
 
-ghost use Rattle.std.specs.Prelude.{◌≡◌, ◌*◌, IfOk, IfSome, true, false, length, None};
+ghost use Rattle.std.specs.Prelude.{◌≡◌, ◌*◌, ◌<◌, All, IfOk, IfSome, true, false, length, None};
 ghost use Rattle.std.specs.Option.{option_copied};
 ghost use Rattle.sal_base.specs.Picture.{AreSides};
 ghost use Rattle.sal_base.specs.Pictures.{blocks_of};
@@ -79,6 +79,7 @@ pub fn next_state(
     requires sides { AreSides width height }
     requires blocks { HasBlocks (blocks_of width) (blocks_of height) planes }
     requires map { length map ≡ blocks_of width * blocks_of height }
+    requires segments { All (λ segment. segment < 4) map }
     ensures { (f : Record) → f.header ≡ header.now → f.width ≡ width → f.height ≡ height → planes ≡ planes_of old.now.references f → map ≡ map_after f old.now.kept.map → probs ≡ kept header.now.key header.now.refresh_entropy old.now.kept.probs header.now.updates → IfOk result (λ s. s ≡ state_after old.now f) }
 {
     let references = next_references(alloc, old.references(), header, width, height, planes)?;

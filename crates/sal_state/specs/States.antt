@@ -1,5 +1,5 @@
 -- The data of a state: all that a frame is decoded from. Sections are those of RFC 6386.
-use Rattle.std.specs.Prelude.{◌≡◌, ℕ, ◌*◌, ◌≤◌, [], false, Option, None, length, IfSome}
+use Rattle.std.specs.Prelude.{◌≡◌, ℕ, ◌*◌, ◌≤◌, ◌<◌, [], false, Option, None, length, IfSome, All}
 use Rattle.sal_base.specs.declared.picture.Planes.{Planes}
 use Rattle.sal_base.specs.Picture.{AreSides, IsPlane}
 use Rattle.sal_base.specs.Pictures.{blocks_of}
@@ -49,7 +49,8 @@ pub record AreReferences (r : References) : Type 0 where
   pub golden : HasBlocks (blocks_of r.width) (blocks_of r.height) r.golden
   pub alt : HasBlocks (blocks_of r.width) (blocks_of r.height) r.alt
 
--- references are of one size, and the segment map has an entry for each of its macroblocks
+-- references are of one size, the segment map has an entry for each of its macroblocks, and each names one of four segments
 pub record IsState (s : StateData) : Type 0 where
   pub references : IfSome s.references AreReferences
+  pub segments : All (λ segment. segment < 4) s.kept.map
   pub map : IfSome s.references (λ r. length s.kept.map ≡ blocks_of r.width * blocks_of r.height)

@@ -1,6 +1,6 @@
 //! States.
 
-ghost use Rattle.std.specs.Prelude.{◌≡◌, ◌++◌, ◌*◌, ℕ, List, IfOk, IfSome, Some, length};
+ghost use Rattle.std.specs.Prelude.{◌≡◌, ◌++◌, ◌*◌, ◌<◌, ℕ, List, All, IfOk, IfSome, Some, length};
 ghost use Rattle.std.specs.Arc.{arc_value};
 ghost use Rattle.std.specs.Option.{option_copied};
 ghost use Rattle.sal_base.specs.Pictures.{blocks_of};
@@ -83,6 +83,7 @@ impl State {
     pub fn new(kept: Kept, references: References) -> State
         requires references { AreReferences references }
         requires map { length kept.map ≡ blocks_of references.width * blocks_of references.height }
+        requires segments { All (λ segment. segment < 4) kept.map }
         ensures { result ≡ record { kept = kept; references = Some references } }
     {
         State {
@@ -93,7 +94,8 @@ impl State {
 
     /// What later headers and macroblocks are read over.
     pub fn kept(&self) -> &Kept
-        ensures { result.now ≡ self.now.kept }
+        ensures kept { result.now ≡ self.now.kept }
+        ensures segments { All (λ segment. segment < 4) result.now.map }
     {
         &self.kept
     }
