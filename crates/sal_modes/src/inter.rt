@@ -23,6 +23,7 @@ use sal_tables::{vector_mode_probabilities, vector_mode_tree};
 /// A bit where there is one, else false.
 pub(crate) fn bit_when(decoder: &mut Decoder<'_>, there: bool, probability: u8) -> bool
     ensures reads { run (when there (one probability) false) decoder.old ≡ (result, decoder.new) }
+    ensures unread { there ≡ false → result ≡ false }
 {
     if there {
         decoder.bit(probability)

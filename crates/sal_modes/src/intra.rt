@@ -1,9 +1,9 @@
 //! Reads the modes of an intra macroblock (RFC 6386, sections 11.2 to 11.4 and 16.2).
 
 ghost use Rattle.std.specs.Prelude.{◌≡◌, ◌<◌, ◌*◌, [], length, replicate};
-ghost use Rattle.std.specs.Prelude.{if◌then◌else◌, take};
+ghost use Rattle.std.specs.Prelude.{if◌then◌else◌, take, true};
 ghost use Rattle.sal_bool.specs.Syntax.{run, Done};
-ghost use Rattle.sal_macroblock.specs.Macroblocks.{is_b, implied};
+ghost use Rattle.sal_macroblock.specs.Macroblocks.{is_b, is_intra, implied};
 ghost use Rattle.sal_modes.specs.Modes.{HasFittingModes};
 ghost use Rattle.sal_modes.specs.IntraModes.{whole_mode, sub_mode, sub_number, sub_row, sub_probabilities, sub_modes, y_mode, chroma_mode, intra_mode};
 
@@ -168,6 +168,7 @@ pub(crate) fn read_intra(
     around: &Neighbours<'_>,
 ) -> MbMode
     ensures reads { run (intra_mode key probs.now around.now) decoder.old ≡ (result, decoder.new) }
+    ensures intra { is_intra result.reference ≡ true }
     ensures modes { HasFittingModes result }
 {
     let y = whole_mode(read_y(decoder, key, probs));

@@ -1,9 +1,10 @@
 //! Reads the modes and vectors of a macroblock (RFC 6386, sections 10, 11, 16 and 19.3).
 
-ghost use Rattle.std.specs.Prelude.{◌≡◌, ◌<◌, ◌≤◌, ℕ, List, not, if◌then◌else◌};
+ghost use Rattle.std.specs.Prelude.{◌≡◌, ◌<◌, ◌≤◌, ℕ, List, true, false, not, if◌then◌else◌};
 ghost use Rattle.sal_bool.specs.Bits.{Interval};
 ghost use Rattle.sal_bool.specs.Reading.{StandsFor};
 ghost use Rattle.sal_bool.specs.Syntax.{run, read, when, leaf};
+ghost use Rattle.sal_macroblock.specs.Macroblocks.{is_intra};
 ghost use Rattle.sal_tables.specs.Trees.{segment_entries};
 ghost use Rattle.sal_modes.specs.Vectors.{AreNear};
 ghost use Rattle.sal_modes.specs.IntraModes.{intra_mode};
@@ -42,6 +43,7 @@ fn read_modes(
 ) -> MbMode
     requires { AreNear around.now.bounds }
     ensures reads { run (if inter then inter_mode header.now probs.now around.now else intra_mode header.now.key probs.now around.now) decoder.old ≡ (result, decoder.new) }
+    ensures intra { inter ≡ false → is_intra result.reference ≡ true }
     ensures modes { HasFittingModes result }
 {
     if inter {
@@ -61,6 +63,7 @@ fn read_around(
 ) -> MbMode
     requires { AreNear around.now.bounds }
     ensures reads { run (mb_mode header.now probs.now around.now) decoder.old ≡ (result, decoder.new) }
+    ensures key { header.now.key ≡ true → is_intra result.reference ≡ true }
     ensures modes { HasFittingModes result }
 {
     let segment = read_segment(decoder, header);
@@ -87,6 +90,7 @@ pub fn read_mb(
     ensures reads { run (mb_mode header.now probs.now (around context.old column)) decoder.old ≡ (result, decoder.new) }
     ensures exact { (bytes : List ℕ) (i : Interval) → StandsFor bytes i decoder.old → (result ≡ (read bytes i (mb_mode header.now probs.now (around context.old column))).0) × StandsFor bytes (read bytes i (mb_mode header.now probs.now (around context.old column))).1 decoder.new }
     ensures modes { HasFittingModes result }
+    ensures key { header.now.key ≡ true → is_intra result.reference ≡ true }
     ensures row { context.new ≡ with_mb column result context.old }
 {
     let beyond = MbMode::outside();
