@@ -25,15 +25,18 @@ part_bytes bytes parts k = let p = slice_index_or parts k (0, 0) in slice_range 
 abbrev pub part_of : ℕ → ℕ → ℕ → ℕ
 part_of count columns k = k / columns % count
 
--- the tokens of macroblock k, and how far its partition is read after them; a skipped one has none
+-- the tokens of a macroblock out of the bytes of its partition, from here on, and how far it is read after them; a skipped one
+-- has none
+abbrev pub tokens_in : List ℕ → Interval → List ℕ → MbMode → List Bool → List Bool → Tokens × Interval
+tokens_in bytes from coefficients m above left =
+    if m.skip then (skipped (has_y2 m.y) above left, from) else read bytes from (macroblock coefficients (has_y2 m.y) above left)
+
+-- those of macroblock k, and how far its partition is read
 unfoldable pub tokens_of : List ℕ → List (ℕ × ℕ) → List ℕ → ℕ → ℕ → MbMode → Progress → Tokens × Interval
 tokens_of bytes parts coefficients columns k m r =
     let part = part_of (length parts) columns k in
-    let left = if k % columns == 0 then no_contexts else r.left in
-    let above = slice_index_or r.above (k % columns) no_contexts in
-    let from = slice_index_or r.read_to part start in
-    if m.skip then (skipped (has_y2 m.y) above left, from)
-    else read (part_bytes bytes parts part) from (macroblock coefficients (has_y2 m.y) above left)
+    tokens_in (part_bytes bytes parts part) (slice_index_or r.read_to part start) coefficients m (slice_index_or r.above (k % columns) no_contexts)
+    (if k % columns == 0 then no_contexts else r.left)
 
 abbrev pub progress_after : ℕ → ℕ → ℕ → Progress → Tokens × Interval → Progress
 progress_after count columns k r t =
