@@ -66,7 +66,16 @@ fn build(
     match references {
         Some(references) if mode.is_inter() => {
             let from = named(references, mode.reference);
-            build_inter(planes, from.planes(), mode, levels, some, &steps, column, row);
+            build_inter(
+                planes,
+                from.planes(),
+                mode,
+                levels,
+                some,
+                &steps,
+                column,
+                row,
+            );
         }
         _ => build_intra(planes, mode, levels, some, &steps, column, row),
     }

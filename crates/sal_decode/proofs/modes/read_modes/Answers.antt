@@ -9,9 +9,10 @@ use Rattle.sal_decode.proofs.modes.read_modes.Goals as goal
 
 pub loop-row-init : goal.loop-row-init
 loop-row-init c =
-    let none = c.reserve.ensures.items ∙ c.new-modes.ensures.items in
-    (at_first c.args.columns c.args.rows c.reserve.new.self.items c.in_ok-context.context none c.in_ok-context.ensures
-    , subst (λ xs. Onward c.args.header.now c.args.probs.now c.args.columns c.args.rows (run (mb_modes c.args.header.now c.args.probs.now c.args.columns c.args.rows (c.args.columns * c.args.rows) []) c.args.decoder.now) xs c.args.decoder.now) (sym none) (none_read c.args.header.now c.args.probs.now c.args.columns c.args.rows c.args.decoder.now))
+    let none = c.reserve.ensures.items ∙ c.new-modes.ensures.items in (
+      at_first c.args.columns c.args.rows c.reserve.new.self.items c.in_ok-context.context none c.in_ok-context.ensures,
+      subst (λ xs. Onward c.args.header.now c.args.probs.now c.args.columns c.args.rows (run (mb_modes c.args.header.now c.args.probs.now c.args.columns c.args.rows (c.args.columns * c.args.rows) []) c.args.decoder.now) xs c.args.decoder.now) (sym none) (none_read c.args.header.now c.args.probs.now c.args.columns c.args.rows c.args.decoder.now),
+    )
 
 pub loop-column-init : goal.loop-column-init
 loop-column-init c = (c.loop-row.invariant.0.holds c.loop-row-test.true, c.loop-row.invariant.1)
@@ -21,19 +22,21 @@ read_mb-mode-requires c = rw c.loop-column.invariant.0.columns_are c.loop-column
 
 pub loop-column-preserved : goal.loop-column-preserved
 loop-column-preserved c =
-    rw (c.in_ok-push.ensures.items, c.read_mb-mode.ensures.row)
-    (holds_more c.args.columns c.args.rows c.loop-row.row c.loop-column.column c.loop-column.modes.items c.loop-column.context c.read_mb-mode.result c.loop-column-test.true c.loop-column.invariant.0
-    , one_more c.args.header.now c.args.probs.now c.args.columns c.args.rows _ c.loop-row.row c.loop-column.column c.loop-column.modes.items c.loop-column.context c.loop-column.decoder c.read_mb-mode.new.decoder c.read_mb-mode.result c.loop-column-test.true c.loop-column.invariant.0 c.read_mb-mode.ensures.reads c.loop-column.invariant.1)
+    rw (c.in_ok-push.ensures.items, c.read_mb-mode.ensures.row) (
+      holds_more c.args.columns c.args.rows c.loop-row.row c.loop-column.column c.loop-column.modes.items c.loop-column.context c.read_mb-mode.result c.loop-column-test.true c.loop-column.invariant.0,
+      one_more c.args.header.now c.args.probs.now c.args.columns c.args.rows _ c.loop-row.row c.loop-column.column c.loop-column.modes.items c.loop-column.context c.loop-column.decoder c.read_mb-mode.new.decoder c.read_mb-mode.result c.loop-column-test.true c.loop-column.invariant.0 c.read_mb-mode.ensures.reads c.loop-column.invariant.1,
+    )
 
 pub down-requires : goal.down-requires
 down-requires c = rw (c.loop-column.invariant.0.row_is, c.loop-column.invariant.0.rows_are) c.if-row-rows.true
 
 pub loop-row-preserved : goal.loop-row-preserved
-loop-row-preserved c =
-    (after_row c.args.columns c.args.rows c.loop-row.row c.loop-column.modes.items c.loop-column.context c.if-row-rows.context
-    (whole_row c.args.columns c.args.rows c.loop-row.row c.loop-column.column c.loop-column.modes.items c.loop-column.context c.loop-column-test.false c.loop-column.auto.column-end c.loop-column.invariant.0)
-    (elim c.if-row-rows.branch [ then-row-rows w ↦ λ lt. w.context-is ∙ w.down.ensures | else-row-rows w ↦ λ lt. absurd (omega (arith, lt, w.if-row-rows.false)) ])
-    , c.loop-column.invariant.1)
+loop-row-preserved c = (
+  after_row c.args.columns c.args.rows c.loop-row.row c.loop-column.modes.items c.loop-column.context c.if-row-rows.context
+      (whole_row c.args.columns c.args.rows c.loop-row.row c.loop-column.column c.loop-column.modes.items c.loop-column.context c.loop-column-test.false c.loop-column.auto.column-end c.loop-column.invariant.0)
+      (elim c.if-row-rows.branch [ then-row-rows w ↦ λ lt. w.context-is ∙ w.down.ensures | else-row-rows w ↦ λ lt. absurd (omega (arith, lt, w.if-row-rows.false)) ]),
+  c.loop-column.invariant.1,
+)
 
 pub returns-clause-count : goal.returns-clause-count
 returns-clause-count c =
