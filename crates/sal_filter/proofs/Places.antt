@@ -1,13 +1,14 @@
 -- One place of an edge and many.
-use Rattle.std.proofs.Common.{◌≡◌, ◌∙◌, ap, refl, sym, arith, ℕ, zero, suc, ◌+◌, ◌*◌, ◌-◌, Bool, true, false, ◌&&◌, cond, List, length, add-one, ℤ, pos, ◌+ℤ◌, ◌-ℤ◌, slice_index, slice_set}
+use Rattle.std.proofs.Common.{◌≡◌, ◌∙◌, ap, refl, sym, arith, ℕ, zero, suc, ◌+◌, ◌*◌, Bool, true, false, ◌&&◌, cond, List, length, add-one, ℤ, ◌+ℤ◌, ◌-ℤ◌}
 use Rattle.std.proofs.lemmas.Int.{ints, clamps}
-use Rattle.std.proofs.lemmas.List.{set-get_or, length-set}
+use Rattle.std.proofs.lemmas.List.{length-set}
 use Rattle.sal_filter.specs.declared.across.Across.{Across}
 use Rattle.sal_filter.specs.declared.edge.Edge.{Edge}
 use Rattle.sal_filter.specs.declared.edge.Sort.{Sort}
 use Rattle.sal_filter.specs.declared.edge.Sort.TheVariants.{Simple, Inner, Outer}
 use Rattle.sal_filter.specs.Edges.{AreBytes, AreSigned, IsSigned, s, is_near, is_smooth, is_steep, place_filtered, simple, inner, outer, step, inner_step, lost, gained, half_lost, part}
-use Rattle.sal_filter.specs.Filtered.{less_128, plus_128, across, across_put, place_put, edge_filtered}
+use Rattle.sal_filter.specs.Filtered.{across, across_put, place_put, edge_filtered}
+use Rattle.sal_filter.specs.Lanes.{edge_place}
 
 pub bytes_of : (a : Across) → AreSigned a → AreBytes a
 bytes_of a h = record {
@@ -48,30 +49,6 @@ outer_signed false a h =
     let w = step (s (a.p1 -ℤ a.q1)) a in
     record { p3 = h.p3; p2 = cut_signed (a.p2 +ℤ part 9 w); p1 = cut_signed (a.p1 +ℤ part 18 w); p0 = cut_signed (a.p0 +ℤ part 27 w); q0 = cut_signed (a.q0 -ℤ part 27 w); q1 = cut_signed (a.q1 -ℤ part 18 w); q2 = cut_signed (a.q2 -ℤ part 9 w); q3 = h.q3 }
 
-there_and_back : (n : ℕ) → plus_128 (pos n -ℤ pos 128) ≡ n
-there_and_back n = omega (arith, ints)
-
-same_put : (xs : List ℕ) (at : ℕ) → slice_set xs at (plus_128 (less_128 xs at)) ≡ xs
-same_put xs at = ap (slice_set xs at) (there_and_back (slice_index xs at)) ∙ set-get_or xs at 0
-
--- what is put back as it was read changes nothing
-put_back : (xs : List ℕ) (at step : ℕ) → across_put at step (across xs at step) xs ≡ xs
-put_back xs at step =
-    let a = same_put xs (at - 3 * step) in
-    let b = same_put xs (at - 2 * step) in
-    let c = same_put xs (at - step) in
-    let d = same_put xs at in
-    let e = same_put xs (at + step) in
-    let f = same_put xs (at + 2 * step) in
-    rw (a, b, c, d, e, f) refl
-
-same_place : (e : Edge) (at step : ℕ) (xs : List ℕ) (a : Across) → place_filtered e.sort e.limit e.interior e.threshold (across xs at step) ≡ a → place_put e at step xs ≡ across_put at step a xs
-unfolding place_put
-same_place e at step xs a h = ap (λ (x : Across). across_put at step x xs) h
-
-left_alone : (e : Edge) (at step : ℕ) (xs : List ℕ) → place_filtered e.sort e.limit e.interior e.threshold (across xs at step) ≡ across xs at step → place_put e at step xs ≡ xs
-left_alone e at step xs h = same_place e at step xs (across xs at step) h ∙ put_back xs at step
-
 by_simple : (t : Sort) (l i h : ℕ) (a : Across) (b : Bool) → t ≡ Simple → b ≡ is_near l a → place_filtered t l i h a ≡ cond b (simple a) a
 unfolding place_filtered
 by_simple t l i h a b e f = rw (e, f) refl
@@ -87,32 +64,29 @@ by_outer t l i h a b e f = rw (e, f) refl
 chosen : (b c : Bool) (x y : Across) → b ≡ c → cond b x y ≡ cond c x y
 chosen b c x y e = ap (λ (t : Bool). cond t x y) e
 
--- each function's result is its definition's
-pub simple_left : (e : Edge) (at step : ℕ) (xs : List ℕ) (a : Across) (b : Bool) → e.sort ≡ Simple → a ≡ across xs at step → b ≡ is_near e.limit a → b ≡ false → xs ≡ place_put e at step xs
-simple_left e at step xs a b t r n f =
-    sym (left_alone e at step xs (by_simple e.sort e.limit e.interior e.threshold (across xs at step) b t (n ∙ ap (is_near e.limit) r) ∙ chosen b false _ _ f))
+-- one place by each filter
+pub simple_left : (e : Edge) (a : Across) (b : Bool) → e.sort ≡ Simple → b ≡ is_near e.limit a → b ≡ false → a ≡ edge_place e a
+simple_left e a b t n f = sym (by_simple e.sort e.limit e.interior e.threshold a b t n ∙ chosen b false _ _ f)
 
-pub simple_done : (e : Edge) (at step : ℕ) (xs ys : List ℕ) (a m : Across) (b : Bool) → e.sort ≡ Simple → a ≡ across xs at step → b ≡ is_near e.limit a → b ≡ true → m ≡ simple a → ys ≡ across_put at step m xs → ys ≡ place_put e at step xs
-simple_done e at step xs ys a m b t r n f s p =
-    p ∙ sym (same_place e at step xs m (by_simple e.sort e.limit e.interior e.threshold (across xs at step) b t (n ∙ ap (is_near e.limit) r) ∙ (chosen b true _ _ f ∙ (ap simple (sym r) ∙ sym s))))
+pub simple_done : (e : Edge) (a m : Across) (b : Bool) → e.sort ≡ Simple → b ≡ is_near e.limit a → b ≡ true → m ≡ simple a → m ≡ edge_place e a
+simple_done e a m b t n f s = s ∙ sym (by_simple e.sort e.limit e.interior e.threshold a b t n ∙ chosen b true _ _ f)
 
-pub inner_left : (e : Edge) (at step : ℕ) (xs : List ℕ) (a : Across) (b : Bool) → e.sort ≡ Inner → a ≡ across xs at step → b ≡ (is_near e.limit a && is_smooth e.interior a) → b ≡ false → xs ≡ place_put e at step xs
-inner_left e at step xs a b t r n f =
-    sym (left_alone e at step xs (by_inner e.sort e.limit e.interior e.threshold (across xs at step) b t (n ∙ ap (λ (x : Across). is_near e.limit x && is_smooth e.interior x) r) ∙ chosen b false _ _ f))
+pub inner_left : (e : Edge) (a : Across) (b : Bool) → e.sort ≡ Inner → b ≡ (is_near e.limit a && is_smooth e.interior a) → b ≡ false → a ≡ edge_place e a
+inner_left e a b t n f = sym (by_inner e.sort e.limit e.interior e.threshold a b t n ∙ chosen b false _ _ f)
 
-pub inner_done : (e : Edge) (at step : ℕ) (xs ys : List ℕ) (a m : Across) (b h : Bool) → e.sort ≡ Inner → a ≡ across xs at step → b ≡ (is_near e.limit a && is_smooth e.interior a) → b ≡ true → h ≡ is_steep e.threshold a → m ≡ inner h a → ys ≡ across_put at step m xs → ys ≡ place_put e at step xs
-inner_done e at step xs ys a m b h t r n f v s p =
-    p ∙ sym (same_place e at step xs m (by_inner e.sort e.limit e.interior e.threshold (across xs at step) b t (n ∙ ap (λ (x : Across). is_near e.limit x && is_smooth e.interior x) r)
-    ∙ (chosen b true _ _ f ∙ (ap (λ (x : Across). inner (is_steep e.threshold x) x) (sym r) ∙ (ap (λ (k : Bool). inner k a) (sym v) ∙ sym s)))))
+pub inner_done : (e : Edge) (a m : Across) (b h : Bool) → e.sort ≡ Inner → b ≡ (is_near e.limit a && is_smooth e.interior a) → b ≡ true → h ≡ is_steep e.threshold a → m ≡ inner h a → m ≡ edge_place e a
+inner_done e a m b h t n f v s = s ∙ (ap (λ (k : Bool). inner k a) v ∙ sym (by_inner e.sort e.limit e.interior e.threshold a b t n ∙ chosen b true _ _ f))
 
-pub outer_left : (e : Edge) (at step : ℕ) (xs : List ℕ) (a : Across) (b : Bool) → e.sort ≡ Outer → a ≡ across xs at step → b ≡ (is_near e.limit a && is_smooth e.interior a) → b ≡ false → xs ≡ place_put e at step xs
-outer_left e at step xs a b t r n f =
-    sym (left_alone e at step xs (by_outer e.sort e.limit e.interior e.threshold (across xs at step) b t (n ∙ ap (λ (x : Across). is_near e.limit x && is_smooth e.interior x) r) ∙ chosen b false _ _ f))
+pub outer_left : (e : Edge) (a : Across) (b : Bool) → e.sort ≡ Outer → b ≡ (is_near e.limit a && is_smooth e.interior a) → b ≡ false → a ≡ edge_place e a
+outer_left e a b t n f = sym (by_outer e.sort e.limit e.interior e.threshold a b t n ∙ chosen b false _ _ f)
 
-pub outer_done : (e : Edge) (at step : ℕ) (xs ys : List ℕ) (a m : Across) (b h : Bool) → e.sort ≡ Outer → a ≡ across xs at step → b ≡ (is_near e.limit a && is_smooth e.interior a) → b ≡ true → h ≡ is_steep e.threshold a → m ≡ outer h a → ys ≡ across_put at step m xs → ys ≡ place_put e at step xs
-outer_done e at step xs ys a m b h t r n f v s p =
-    p ∙ sym (same_place e at step xs m (by_outer e.sort e.limit e.interior e.threshold (across xs at step) b t (n ∙ ap (λ (x : Across). is_near e.limit x && is_smooth e.interior x) r)
-    ∙ (chosen b true _ _ f ∙ (ap (λ (x : Across). outer (is_steep e.threshold x) x) (sym r) ∙ (ap (λ (k : Bool). outer k a) (sym v) ∙ sym s)))))
+pub outer_done : (e : Edge) (a m : Across) (b h : Bool) → e.sort ≡ Outer → b ≡ (is_near e.limit a && is_smooth e.interior a) → b ≡ true → h ≡ is_steep e.threshold a → m ≡ outer h a → m ≡ edge_place e a
+outer_done e a m b h t n f v s = s ∙ (ap (λ (k : Bool). outer k a) v ∙ sym (by_outer e.sort e.limit e.interior e.threshold a b t n ∙ chosen b true _ _ f))
+
+-- one place in the samples
+pub place_done : (e : Edge) (at step : ℕ) (xs ys : List ℕ) (a m : Across) → a ≡ across xs at step → m ≡ edge_place e a → ys ≡ across_put at step m xs → ys ≡ place_put e at step xs
+unfolding place_put
+place_done e at step xs ys a m r v p = p ∙ ap (λ (x : Across). across_put at step x xs) (v ∙ ap (edge_place e) r)
 
 -- no place more, and one place more
 pub edge_none : (e : Edge) (at step along : ℕ) (xs : List ℕ) → xs ≡ edge_filtered e at step along 0 xs

@@ -1,20 +1,20 @@
--- Signed bytes in 32 bits.
-use Rattle.std.proofs.Common.{◌≡◌, ◌∙◌, ap, refl, arith, ℤ, pos, to_z, of_z, w32, ◌-ℤ◌, ◌+ℤ◌, ◌*ℤ◌}
+-- Signed bytes in 16 bits.
+use Rattle.std.proofs.Common.{◌≡◌, ◌∙◌, ap, refl, arith, ℤ, pos, to_z, of_z, w16, ◌-ℤ◌, ◌+ℤ◌, ◌*ℤ◌}
 use Rattle.std.proofs.lemmas.Int.{ints}
 use Rattle.std.specs.Int.{int_shr}
 use Rattle.sal_filter.specs.declared.across.Across.{Across}
 use Rattle.sal_macroblock.specs.Sizes.{Within}
 use Rattle.sal_filter.specs.Edges.{s}
 
-pub held : (z x : ℤ) → z ≡ x → Within 128 z → to_z w32 (of_z w32 z) ≡ x
+pub held : (z x : ℤ) → z ≡ x → Within 128 z → to_z w16 (of_z w16 z) ≡ x
 held z x e h = omega (arith, ints)
 
-pub kept : (z : ℤ) → Within 128 z → to_z w32 (of_z w32 z) ≡ z
+pub kept : (z : ℤ) → Within 128 z → to_z w16 (of_z w16 z) ≡ z
 kept z h = held z z refl h
 
 -- a passed value as it is
 abbrev pub as_passed : ℤ → ℤ
-as_passed z = to_z w32 (of_z w32 z)
+as_passed z = to_z w16 (of_z w16 z)
 
 pub passed : (x y : ℤ) → Within 128 x → x ≡ y → as_passed x ≡ y
 passed x y h e = held x y e h

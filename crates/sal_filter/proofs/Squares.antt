@@ -1,8 +1,10 @@
 -- The edges of a square stand in its plane.
-use Rattle.std.proofs.Common.{◌≡◌, ◌∙◌, ap, refl, sym, arith, ℕ, zero, suc, ◌+◌, ◌*◌, ◌-◌, ◌/◌, ◌<◌, ◌≤◌, Bool, true, false, List, length, add-one, nat_lt, cond}
+use Rattle.std.proofs.Common.{inl, inr, subst, ◌≡◌, ◌∙◌, ap, refl, sym, arith, ℕ, zero, suc, ◌+◌, ◌*◌, ◌-◌, ◌/◌, ◌%◌, ◌<◌, ◌≤◌, Bool, true, false, List, length, add-one, nat_lt, cond}
 use Rattle.std.proofs.Math.Nat.{mul-le-mul_right}
+use Rattle.std.proofs.lemmas.Bool.{cases_lt}
 use Rattle.sal_filter.specs.declared.edge.Edge.{Edge}
 use Rattle.sal_filter.specs.declared.block.Square.{Square}
+use Rattle.sal_filter.specs.Filtered.{edge_filtered}
 use Rattle.sal_filter.specs.Blocks.{Fits, upright, level, fourths, uprights, levels, square_filtered}
 use Rattle.sal_filter.proofs.Places.{length_edge}
 
@@ -21,24 +23,38 @@ pub level_fits : (s : Square) (xs : List ℕ) (offset n : ℕ) → Fits s xs →
 level_fits s xs offset n f o h =
     let m = in_rows (s.y + offset + 3) (s.x + n) s.width (s.y + s.side) (length xs) (omega arith) (omega (arith, f.columns)) f.rows in omega (arith, m)
 
--- the first sample of an edge is in the plane
-pub upright_at_fits : (s : Square) (xs : List ℕ) (offset : ℕ) → Fits s xs → offset + 4 ≤ s.side → s.y * s.width + s.x + offset < length xs
-upright_at_fits s xs offset f o = let m = upright_fits s xs offset 0 f o (omega arith) in omega (arith, m)
+-- no two places of an edge share a sample
+pub upright_apart : (s : Square) (xs : List ℕ) (d m : ℕ) → Fits s xs → d ≤ 7 → 1 ≤ m → d * 1 ≡ m * s.width → ⊥
+upright_apart s xs d m f a b e = let p : 1 * s.width ≤ m * s.width = mul-le-mul_right s.width b in omega (arith, p, e, f.columns, f.some, f.eights)
 
-pub level_at_fits : (s : Square) (xs : List ℕ) (offset : ℕ) → Fits s xs → offset + 4 ≤ s.side → (s.y + offset) * s.width + s.x < length xs
-level_at_fits s xs offset f o = let m = level_fits s xs offset 0 f o (omega arith) in omega (arith, m)
+pub level_apart : (s : Square) (xs : List ℕ) (d m : ℕ) → Fits s xs → 1 ≤ m → m < 8 → d * s.width ≡ m * 1 → ⊥
+level_apart s xs d m f b c e =
+    elim (cases_lt 0 d) [
+      | inl some ↦ let p : 1 * s.width ≤ d * s.width = mul-le-mul_right s.width some in omega (arith, p, e, f.columns, f.some, f.eights)
+      | inr none ↦ let z : d ≡ 0 = omega arith in let g : 0 * s.width ≡ m * 1 = subst (λ (k : ℕ). k * s.width ≡ m * 1) z e in omega (arith, g)
+    ]
+
+-- a side is so many eights
+pub whole_side : (s : Square) (xs : List ℕ) → Fits s xs → 8 * (s.side / 8) ≡ s.side
+whole_side s xs f = omega (arith, f.eights)
+
+pub upright_whole : (e : Edge) (s : Square) (offset : ℕ) (xs ys : List ℕ) → Fits s xs → ys ≡ edge_filtered e (s.y * s.width + s.x + offset) 1 s.width (8 * (s.side / 8)) xs → ys ≡ upright e s offset xs
+upright_whole e s offset xs ys f p = p ∙ ap (λ (n : ℕ). edge_filtered e (s.y * s.width + s.x + offset) 1 s.width n xs) (whole_side s xs f)
+
+pub level_whole : (e : Edge) (s : Square) (offset : ℕ) (xs ys : List ℕ) → Fits s xs → ys ≡ edge_filtered e ((s.y + offset) * s.width + s.x) s.width 1 (8 * (s.side / 8)) xs → ys ≡ level e s offset xs
+level_whole e s offset xs ys f p = p ∙ ap (λ (n : ℕ). edge_filtered e ((s.y + offset) * s.width + s.x) s.width 1 n xs) (whole_side s xs f)
 
 -- a square in a plane
 pub fits_in : (s : Square) (xs ys : List ℕ) (width height : ℕ) → ys ≡ xs → length xs ≡ width * height → s.width ≡ width → s.x + s.side ≤ width → s.y + s.side ≤ height
-    → (0 < s.x → 4 ≤ s.x) → (0 < s.y → 4 ≤ s.y) → Fits s ys
-fits_in s xs ys width height same long e columns rows left top =
+    → (0 < s.x → 4 ≤ s.x) → (0 < s.y → 4 ≤ s.y) → (0 < s.side) × (s.side % 8 ≡ 0) → Fits s ys
+fits_in s xs ys width height same long e columns rows left top side =
     let m : (s.y + s.side) * s.width ≤ height * s.width = mul-le-mul_right s.width rows in
     let all : length ys ≡ s.width * height = ap length same ∙ (long ∙ ap (λ (k : ℕ). k * height) (sym e)) in
-    record { columns = omega arith; rows = omega (arith, m, all); left = left; top = top }
+    record { some = side.0; eights = side.1; columns = omega arith; rows = omega (arith, m, all); left = left; top = top }
 
 -- a list as long has the square too
 pub fits_as_long : (s : Square) (xs ys : List ℕ) → length ys ≡ length xs → Fits s xs → Fits s ys
-fits_as_long s xs ys e f = record { columns = f.columns; rows = let h = f.rows in omega arith; left = f.left; top = f.top }
+fits_as_long s xs ys e f = record { some = f.some; eights = f.eights; columns = f.columns; rows = let h = f.rows in omega arith; left = f.left; top = f.top }
 
 pub fourths_none : (f : ℕ → List ℕ → List ℕ) (xs : List ℕ) → xs ≡ fourths f 0 xs
 unfolding fourths

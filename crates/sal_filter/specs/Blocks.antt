@@ -1,13 +1,15 @@
 -- What a macroblock's filtering makes of one plane: the edges of a square, in the samples of its plane.
-use Rattle.std.specs.Prelude.{ℕ, suc, zero, ◌+◌, ◌-◌, ◌*◌, ◌/◌, ◌≤◌, ◌<◌, List, Bool, length, nat_lt, if◌then◌else◌}
+use Rattle.std.specs.Prelude.{◌≡◌, ℕ, suc, zero, ◌+◌, ◌-◌, ◌*◌, ◌/◌, ◌%◌, ◌≤◌, ◌<◌, List, Bool, length, nat_lt, if◌then◌else◌}
 use Rattle.sal_base.specs.declared.picture.Planes.{Planes}
 use Rattle.sal_base.specs.Picture.{IsPlane}
 use Rattle.sal_filter.specs.declared.edge.Edge.{Edge}
 use Rattle.sal_filter.specs.declared.block.Square.{Square}
 use Rattle.sal_filter.specs.Filtered.{edge_filtered}
 
--- it stands in the plane, and where it isn't at the plane's side there are four samples at least before it
+-- its side is a multiple of 8 and not 0, it stands in the plane, and where it isn't at the plane's side there are four samples at least before it
 pub record Fits (s : Square) (samples : List ℕ) : Type 0 where
+  pub some : 0 < s.side
+  pub eights : s.side % 8 ≡ 0
   pub columns : s.x + s.side ≤ s.width
   pub rows : (s.y + s.side) * s.width ≤ length samples
   pub left : 0 < s.x → 4 ≤ s.x

@@ -8,17 +8,18 @@ ghost use Rattle.sal_filter.specs.Edges.{AreBytes, s, distance, is_near, is_smoo
 /// Samples less 128, by their distance from the edge: p before it, q after it.
 #[derive(Clone, Copy, Debug, PartialEq, Eq)]
 pub struct Across {
-    pub p3: i32,
-    pub p2: i32,
-    pub p1: i32,
-    pub p0: i32,
-    pub q0: i32,
-    pub q1: i32,
-    pub q2: i32,
-    pub q3: i32,
+    pub p3: i16,
+    pub p2: i16,
+    pub p1: i16,
+    pub p0: i16,
+    pub q0: i16,
+    pub q1: i16,
+    pub q2: i16,
+    pub q3: i16,
 }
 
-fn s(x: i32) -> i32
+#[inline(always)]
+fn s(x: i16) -> i16
     ensures value { result ≡ s x }
     ensures small { Within 128 result }
 {
@@ -27,7 +28,8 @@ fn s(x: i32) -> i32
 }
 
 #[tactic(auto, unfolding(crate::specs::Edges::lost))]
-fn lost(x: i32) -> i32
+#[inline(always)]
+fn lost(x: i16) -> i16
     requires { Within 128 x }
     ensures value { result ≡ lost x }
     ensures small { Within 16 result }
@@ -36,7 +38,8 @@ fn lost(x: i32) -> i32
 }
 
 #[tactic(auto, unfolding(crate::specs::Edges::gained))]
-fn gained(x: i32) -> i32
+#[inline(always)]
+fn gained(x: i16) -> i16
     requires { Within 128 x }
     ensures value { result ≡ gained x }
     ensures small { Within 16 result }
@@ -44,7 +47,8 @@ fn gained(x: i32) -> i32
     s(x + 3) >> 3
 }
 
-fn moved(x: i32, by: i32) -> i32
+#[inline(always)]
+fn moved(x: i16, by: i16) -> i16
     requires x { Within 128 x }
     requires by { Within 128 by }
     ensures value { result ≡ s (x +ℤ by) }
@@ -53,7 +57,8 @@ fn moved(x: i32, by: i32) -> i32
     s(x + by)
 }
 
-fn moved_back(x: i32, by: i32) -> i32
+#[inline(always)]
+fn moved_back(x: i16, by: i16) -> i16
     requires x { Within 128 x }
     requires by { Within 128 by }
     ensures value { result ≡ s (x -ℤ by) }
@@ -62,7 +67,8 @@ fn moved_back(x: i32, by: i32) -> i32
     s(x - by)
 }
 
-fn step(outer: i32, p0: i32, q0: i32) -> i32
+#[inline(always)]
+fn step(outer: i16, p0: i16, q0: i16) -> i16
     requires outer { Within 128 outer }
     requires p0 { Within 128 p0 }
     requires q0 { Within 128 q0 }
@@ -73,7 +79,8 @@ fn step(outer: i32, p0: i32, q0: i32) -> i32
 }
 
 #[tactic(auto, unfolding(crate::specs::Edges::half_lost))]
-fn half_lost(x: i32) -> i32
+#[inline(always)]
+fn half_lost(x: i16) -> i16
     requires { Within 128 x }
     ensures value { result ≡ half_lost x }
     ensures small { Within 16 result }
@@ -81,7 +88,8 @@ fn half_lost(x: i32) -> i32
     (lost(x) + 1) >> 1
 }
 
-fn rounded_7(x: i32) -> i32
+#[inline(always)]
+fn rounded_7(x: i16) -> i16
     requires { Within 4096 x }
     ensures value { result ≡ int_shr (x +ℤ pos 63) 7 }
     ensures small { Within 128 result }
@@ -90,7 +98,8 @@ fn rounded_7(x: i32) -> i32
 }
 
 #[tactic(auto, unfolding(crate::specs::Edges::part))]
-fn part_27(w: i32) -> i32
+#[inline(always)]
+fn part_27(w: i16) -> i16
     requires { Within 128 w }
     ensures value { result ≡ part 27 w }
     ensures small { Within 128 result }
@@ -99,7 +108,8 @@ fn part_27(w: i32) -> i32
 }
 
 #[tactic(auto, unfolding(crate::specs::Edges::part))]
-fn part_18(w: i32) -> i32
+#[inline(always)]
+fn part_18(w: i16) -> i16
     requires { Within 128 w }
     ensures value { result ≡ part 18 w }
     ensures small { Within 128 result }
@@ -108,7 +118,8 @@ fn part_18(w: i32) -> i32
 }
 
 #[tactic(auto, unfolding(crate::specs::Edges::part))]
-fn part_9(w: i32) -> i32
+#[inline(always)]
+fn part_9(w: i16) -> i16
     requires { Within 128 w }
     ensures value { result ≡ part 9 w }
     ensures small { Within 128 result }
@@ -117,7 +128,8 @@ fn part_9(w: i32) -> i32
 }
 
 // The two nearest samples moved.
-fn common(x: i32, a: Across) -> Across
+#[inline(always)]
+fn common(x: i16, a: Across) -> Across
     requires x { Within 128 x }
     requires bytes { AreBytes a }
     ensures value { result ≡ common x a }
@@ -129,6 +141,7 @@ fn common(x: i32, a: Across) -> Across
 }
 
 /// The simple filter, which moves the two nearest samples.
+#[inline(always)]
 pub fn simple(a: Across) -> Across
     requires bytes { AreBytes a }
     ensures value { result ≡ simple a }
@@ -138,6 +151,7 @@ pub fn simple(a: Across) -> Across
 }
 
 /// The filter within a macroblock; without high variance it also moves the next two samples by half as much.
+#[inline(always)]
 pub fn inner(steep: bool, a: Across) -> Across
     requires bytes { AreBytes a }
     ensures value { result ≡ inner steep a }
@@ -161,6 +175,7 @@ pub fn inner(steep: bool, a: Across) -> Across
 
 /// The filter between macroblocks; without high variance it moves three samples on each side.
 #[tactic(auto, unfolding(crate::specs::Edges::outer))]
+#[inline(always)]
 pub fn outer(steep: bool, a: Across) -> Across
     requires bytes { AreBytes a }
     ensures value { result ≡ outer steep a }

@@ -3,14 +3,15 @@
 ghost use Rattle.std.specs.Prelude.{◌≡◌, ◌+◌, ◌-◌, ◌*◌, ◌/◌, ◌≤◌, ◌<◌, length, nat_lt, if◌then◌else◌};
 ghost use Rattle.sal_filter.specs.Blocks.{Fits, upright, level, fourths, uprights, levels, square_filtered};
 
-use crate::edge::{Edge, filter_edge};
+use crate::edge::Edge;
+use crate::lanes::filter_edge;
 
 /// The samples of a macroblock in one plane, in samples.
 #[derive(Clone, Copy, Debug, PartialEq, Eq)]
 pub struct Square {
     /// Of the plane.
     pub width: usize,
-    /// Of the square, a multiple of 4.
+    /// Of the square: 16 for luma, 8 for chroma.
     pub side: usize,
     /// The column of its first sample.
     pub x: usize,
@@ -26,7 +27,7 @@ fn filter_upright(samples: &mut [u8], square: &Square, edge: &Edge, offset: usiz
     ensures { samples.new ≡ upright edge.now square.now offset samples.old }
 {
     let at = square.y * square.width + square.x + offset;
-    filter_edge(edge, samples, at, 1, square.width, square.side);
+    filter_edge(edge, samples, at, 1, square.width, square.side / 8);
 }
 
 // Its horizontal edge this far down.
@@ -37,12 +38,11 @@ fn filter_level(samples: &mut [u8], square: &Square, edge: &Edge, offset: usize)
     ensures { samples.new ≡ level edge.now square.now offset samples.old }
 {
     let at = (square.y + offset) * square.width + square.x;
-    filter_edge(edge, samples, at, square.width, 1, square.side);
+    filter_edge(edge, samples, at, square.width, 1, square.side / 8);
 }
 
 fn filter_left(samples: &mut [u8], square: &Square, edge: &Edge)
-    requires fits { Fits square.now samples.old }
-    requires side { 4 ≤ square.now.side }
+    requires { Fits square.now samples.old }
     ensures { samples.new ≡ (if nat_lt 0 square.now.x then upright edge.now square.now 0 samples.old else samples.old) }
 {
     if square.x > 0 {
@@ -51,8 +51,7 @@ fn filter_left(samples: &mut [u8], square: &Square, edge: &Edge)
 }
 
 fn filter_top(samples: &mut [u8], square: &Square, edge: &Edge)
-    requires fits { Fits square.now samples.old }
-    requires side { 4 ≤ square.now.side }
+    requires { Fits square.now samples.old }
     ensures { samples.new ≡ (if nat_lt 0 square.now.y then level edge.now square.now 0 samples.old else samples.old) }
 {
     if square.y > 0 {
@@ -61,8 +60,7 @@ fn filter_top(samples: &mut [u8], square: &Square, edge: &Edge)
 }
 
 fn filter_inner_uprights(samples: &mut [u8], square: &Square, edge: &Edge)
-    requires fits { Fits square.now samples.old }
-    requires side { 4 ≤ square.now.side }
+    requires { Fits square.now samples.old }
     ensures { samples.new ≡ fourths (upright edge.now square.now) (square.now.side / 4 - 1) samples.old }
 {
     for k in 0..square.side / 4 - 1 {
@@ -71,8 +69,7 @@ fn filter_inner_uprights(samples: &mut [u8], square: &Square, edge: &Edge)
 }
 
 fn filter_inner_levels(samples: &mut [u8], square: &Square, edge: &Edge)
-    requires fits { Fits square.now samples.old }
-    requires side { 4 ≤ square.now.side }
+    requires { Fits square.now samples.old }
     ensures { samples.new ≡ fourths (level edge.now square.now) (square.now.side / 4 - 1) samples.old }
 {
     for k in 0..square.side / 4 - 1 {
@@ -81,8 +78,7 @@ fn filter_inner_levels(samples: &mut [u8], square: &Square, edge: &Edge)
 }
 
 fn filter_uprights(samples: &mut [u8], square: &Square, outer: &Edge, inner: &Edge, within: bool)
-    requires fits { Fits square.now samples.old }
-    requires side { 4 ≤ square.now.side }
+    requires { Fits square.now samples.old }
     ensures { samples.new ≡ uprights outer.now inner.now within square.now samples.old }
 {
     filter_left(samples, square, outer);
@@ -92,8 +88,7 @@ fn filter_uprights(samples: &mut [u8], square: &Square, outer: &Edge, inner: &Ed
 }
 
 fn filter_levels(samples: &mut [u8], square: &Square, outer: &Edge, inner: &Edge, within: bool)
-    requires fits { Fits square.now samples.old }
-    requires side { 4 ≤ square.now.side }
+    requires { Fits square.now samples.old }
     ensures { samples.new ≡ levels outer.now inner.now within square.now samples.old }
 {
     filter_top(samples, square, outer);
@@ -105,8 +100,7 @@ fn filter_levels(samples: &mut [u8], square: &Square, outer: &Edge, inner: &Edge
 /// Filters the left edge of a square, its inner vertical edges, its top edge and its inner horizontal edges.
 #[tactic(auto, unfolding(crate::specs::Blocks::square_filtered))]
 pub fn filter_square(samples: &mut [u8], square: &Square, outer: &Edge, inner: &Edge, within: bool)
-    requires fits { Fits square.now samples.old }
-    requires side { 4 ≤ square.now.side }
+    requires { Fits square.now samples.old }
     ensures { samples.new ≡ square_filtered outer.now inner.now within square.now samples.old }
 {
     filter_uprights(samples, square, outer, inner, within);

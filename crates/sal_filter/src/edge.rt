@@ -3,6 +3,7 @@
 ghost use Rattle.std.specs.Prelude.{◌≡◌, ℕ, ◌+◌, ◌*◌, ◌<◌, ◌≤◌, ◌&&◌, ◌-ℤ◌, pos, length};
 ghost use Rattle.sal_filter.specs.Edges.{AreBytes, AreSigned, IsSigned, is_near, is_even, is_smooth, is_steep};
 ghost use Rattle.sal_filter.specs.Filtered.{plus_128, across, across_put, place_put, edge_filtered, edge_of};
+ghost use Rattle.sal_filter.specs.Lanes.{edge_place};
 
 use crate::across::{Across, inner, outer, simple};
 use crate::limits::Limits;
@@ -23,11 +24,11 @@ pub enum Sort {
 pub struct Edge {
     pub sort: Sort,
     /// The largest step across it.
-    pub limit: u32,
+    pub limit: u16,
     /// The largest difference of neighbours on one side.
-    pub interior: u32,
+    pub interior: u16,
     /// Differences next to it above this are high variance.
-    pub threshold: u32,
+    pub threshold: u16,
 }
 
 /// How the edges between macroblocks or those within one are filtered.
@@ -49,7 +50,8 @@ pub fn edge_of(is_simple: bool, is_outer: bool, limits: &Limits) -> Edge
     }
 }
 
-fn is_near(limit: u32, a: &Across) -> bool
+#[inline(always)]
+fn is_near(limit: u16, a: &Across) -> bool
     requires { AreBytes a.now }
     ensures { result ≡ is_near limit a.now }
 {
@@ -57,28 +59,32 @@ fn is_near(limit: u32, a: &Across) -> bool
 }
 
 // Whether the samples before the edge differ little from one to the next.
-fn is_even_before(limit: u32, a: &Across) -> bool
+#[inline(always)]
+fn is_even_before(limit: u16, a: &Across) -> bool
     requires { AreBytes a.now }
     ensures { result ≡ is_even limit a.now.p3 a.now.p2 a.now.p1 a.now.p0 }
 {
     a.p3.abs_diff(a.p2) <= limit && a.p2.abs_diff(a.p1) <= limit && a.p1.abs_diff(a.p0) <= limit
 }
 
-fn is_even_after(limit: u32, a: &Across) -> bool
+#[inline(always)]
+fn is_even_after(limit: u16, a: &Across) -> bool
     requires { AreBytes a.now }
     ensures { result ≡ is_even limit a.now.q3 a.now.q2 a.now.q1 a.now.q0 }
 {
     a.q3.abs_diff(a.q2) <= limit && a.q2.abs_diff(a.q1) <= limit && a.q1.abs_diff(a.q0) <= limit
 }
 
-fn is_smooth(limit: u32, a: &Across) -> bool
+#[inline(always)]
+fn is_smooth(limit: u16, a: &Across) -> bool
     requires { AreBytes a.now }
     ensures { result ≡ is_smooth limit a.now }
 {
     is_even_before(limit, a) && is_even_after(limit, a)
 }
 
-fn is_steep(threshold: u32, a: &Across) -> bool
+#[inline(always)]
+fn is_steep(threshold: u16, a: &Across) -> bool
     requires { AreBytes a.now }
     ensures { result ≡ is_steep threshold a.now }
 {
@@ -86,6 +92,7 @@ fn is_steep(threshold: u32, a: &Across) -> bool
 }
 
 // Whether the normal filter moves anything.
+#[inline(always)]
 fn is_filtered(edge: &Edge, a: &Across) -> bool
     requires { AreBytes a.now }
     ensures { result ≡ (is_near edge.now.limit a.now && is_smooth edge.now.interior a.now) }
@@ -93,14 +100,16 @@ fn is_filtered(edge: &Edge, a: &Across) -> bool
     is_near(edge.limit, a) && is_smooth(edge.interior, a)
 }
 
-fn less_128(sample: u8) -> i32
+#[inline(always)]
+fn less_128(sample: u8) -> i16
     ensures value { result ≡ pos sample -ℤ pos 128 }
     ensures signed { IsSigned result }
 {
-    sample as i32 - 128
+    sample as i16 - 128
 }
 
-fn plus_128(x: i32) -> u8
+#[inline(always)]
+fn plus_128(x: i16) -> u8
     requires { IsSigned x }
     ensures { result ≡ plus_128 x }
 {
@@ -108,6 +117,7 @@ fn plus_128(x: i32) -> u8
 }
 
 // The samples around the edge before place `at`.
+#[inline(always)]
 fn around(samples: &[u8], at: usize, step: usize) -> Across
     requires before { 4 * step ≤ at }
     requires after { at + 3 * step < length samples.now }
@@ -126,6 +136,7 @@ fn around(samples: &[u8], at: usize, step: usize) -> Across
     }
 }
 
+#[inline(always)]
 fn put(samples: &mut [u8], at: usize, step: usize, a: &Across)
     requires before { 4 * step ≤ at }
     requires after { at + 3 * step < length samples.old }
@@ -140,80 +151,87 @@ fn put(samples: &mut [u8], at: usize, step: usize, a: &Across)
     samples[at + 2 * step] = plus_128(a.q2);
 }
 
+// One place by the simple filter.
+#[inline(always)]
+fn simple_moved(edge: &Edge, a: Across) -> Across
+    requires sort { edge.now.sort ≡ Sort.Simple }
+    requires signed { AreSigned a }
+    ensures value { result ≡ edge_place edge.now a }
+    ensures signed { AreSigned result }
+{
+    if is_near(edge.limit, &a) {
+        simple(a)
+    } else {
+        a
+    }
+}
+
+// One place within a macroblock.
+#[inline(always)]
+fn inner_moved(edge: &Edge, a: Across) -> Across
+    requires sort { edge.now.sort ≡ Sort.Inner }
+    requires signed { AreSigned a }
+    ensures value { result ≡ edge_place edge.now a }
+    ensures signed { AreSigned result }
+{
+    if is_filtered(edge, &a) {
+        inner(is_steep(edge.threshold, &a), a)
+    } else {
+        a
+    }
+}
+
+// One place between macroblocks.
+#[inline(always)]
+fn outer_moved(edge: &Edge, a: Across) -> Across
+    requires sort { edge.now.sort ≡ Sort.Outer }
+    requires signed { AreSigned a }
+    ensures value { result ≡ edge_place edge.now a }
+    ensures signed { AreSigned result }
+{
+    if is_filtered(edge, &a) {
+        outer(is_steep(edge.threshold, &a), a)
+    } else {
+        a
+    }
+}
+
+#[inline(always)]
 fn simple_place(edge: &Edge, samples: &mut [u8], at: usize, step: usize)
     requires sort { edge.now.sort ≡ Sort.Simple }
     requires before { 4 * step ≤ at }
     requires after { at + 3 * step < length samples.old }
     ensures { samples.new ≡ place_put edge.now at step samples.old }
 {
-    let a = around(samples, at, step);
-    if !is_near(edge.limit, &a) {
-        return;
-    }
-    put(samples, at, step, &simple(a));
+    let moved = simple_moved(edge, around(samples, at, step));
+    put(samples, at, step, &moved);
 }
 
+#[inline(always)]
 fn inner_place(edge: &Edge, samples: &mut [u8], at: usize, step: usize)
     requires sort { edge.now.sort ≡ Sort.Inner }
     requires before { 4 * step ≤ at }
     requires after { at + 3 * step < length samples.old }
     ensures { samples.new ≡ place_put edge.now at step samples.old }
 {
-    let a = around(samples, at, step);
-    if !is_filtered(edge, &a) {
-        return;
-    }
-    put(samples, at, step, &inner(is_steep(edge.threshold, &a), a));
+    let moved = inner_moved(edge, around(samples, at, step));
+    put(samples, at, step, &moved);
 }
 
+#[inline(always)]
 fn outer_place(edge: &Edge, samples: &mut [u8], at: usize, step: usize)
     requires sort { edge.now.sort ≡ Sort.Outer }
     requires before { 4 * step ≤ at }
     requires after { at + 3 * step < length samples.old }
     ensures { samples.new ≡ place_put edge.now at step samples.old }
 {
-    let a = around(samples, at, step);
-    if !is_filtered(edge, &a) {
-        return;
-    }
-    put(samples, at, step, &outer(is_steep(edge.threshold, &a), a));
-}
-
-fn simple_edge(edge: &Edge, samples: &mut [u8], at: usize, step: usize, along: usize, count: usize)
-    requires sort { edge.now.sort ≡ Sort.Simple }
-    requires before { 4 * step ≤ at }
-    requires after { (n : ℕ) → n < count → at + n * along + 3 * step < length samples.old }
-    ensures { samples.new ≡ edge_filtered edge.now at step along count samples.old }
-{
-    for n in 0..count {
-        simple_place(edge, samples, at + n * along, step);
-    }
-}
-
-fn inner_edge(edge: &Edge, samples: &mut [u8], at: usize, step: usize, along: usize, count: usize)
-    requires sort { edge.now.sort ≡ Sort.Inner }
-    requires before { 4 * step ≤ at }
-    requires after { (n : ℕ) → n < count → at + n * along + 3 * step < length samples.old }
-    ensures { samples.new ≡ edge_filtered edge.now at step along count samples.old }
-{
-    for n in 0..count {
-        inner_place(edge, samples, at + n * along, step);
-    }
-}
-
-fn outer_edge(edge: &Edge, samples: &mut [u8], at: usize, step: usize, along: usize, count: usize)
-    requires sort { edge.now.sort ≡ Sort.Outer }
-    requires before { 4 * step ≤ at }
-    requires after { (n : ℕ) → n < count → at + n * along + 3 * step < length samples.old }
-    ensures { samples.new ≡ edge_filtered edge.now at step along count samples.old }
-{
-    for n in 0..count {
-        outer_place(edge, samples, at + n * along, step);
-    }
+    let moved = outer_moved(edge, around(samples, at, step));
+    put(samples, at, step, &moved);
 }
 
 /// Filters `count` places of an edge from `at` on, `along` apart; the samples across it are `step` apart.
-pub fn filter_edge(
+#[inline(always)]
+pub fn simple_edge(
     edge: &Edge,
     samples: &mut [u8],
     at: usize,
@@ -221,13 +239,55 @@ pub fn filter_edge(
     along: usize,
     count: usize,
 )
+    requires sort { edge.now.sort ≡ Sort.Simple }
     requires before { 4 * step ≤ at }
     requires after { (n : ℕ) → n < count → at + n * along + 3 * step < length samples.old }
     ensures { samples.new ≡ edge_filtered edge.now at step along count samples.old }
 {
-    match edge.sort {
-        Sort::Simple => simple_edge(edge, samples, at, step, along, count),
-        Sort::Inner => inner_edge(edge, samples, at, step, along, count),
-        Sort::Outer => outer_edge(edge, samples, at, step, along, count),
+    let limits = *edge;
+    for n in 0..count {
+        simple_place(&limits, samples, at + n * along, step);
+    }
+}
+
+/// Filters `count` places of an edge from `at` on, `along` apart; the samples across it are `step` apart.
+#[inline(always)]
+pub fn inner_edge(
+    edge: &Edge,
+    samples: &mut [u8],
+    at: usize,
+    step: usize,
+    along: usize,
+    count: usize,
+)
+    requires sort { edge.now.sort ≡ Sort.Inner }
+    requires before { 4 * step ≤ at }
+    requires after { (n : ℕ) → n < count → at + n * along + 3 * step < length samples.old }
+    ensures { samples.new ≡ edge_filtered edge.now at step along count samples.old }
+{
+    let limits = *edge;
+    for n in 0..count {
+        inner_place(&limits, samples, at + n * along, step);
+    }
+}
+
+/// Filters `count` places of an edge from `at` on, `along` apart; the samples across it are `step` apart.
+#[inline(always)]
+pub fn outer_edge(
+    edge: &Edge,
+    samples: &mut [u8],
+    at: usize,
+    step: usize,
+    along: usize,
+    count: usize,
+)
+    requires sort { edge.now.sort ≡ Sort.Outer }
+    requires before { 4 * step ≤ at }
+    requires after { (n : ℕ) → n < count → at + n * along + 3 * step < length samples.old }
+    ensures { samples.new ≡ edge_filtered edge.now at step along count samples.old }
+{
+    let limits = *edge;
+    for n in 0..count {
+        outer_place(&limits, samples, at + n * along, step);
     }
 }

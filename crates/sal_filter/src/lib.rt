@@ -5,6 +5,7 @@ mod across;
 mod block;
 mod edge;
 mod head;
+mod lanes;
 mod limits;
 mod picture;
 

@@ -12,16 +12,16 @@ use sal_macroblock::{MbMode, RefKind};
 #[derive(Clone, Copy, Debug, PartialEq, Eq)]
 pub struct Limits {
     /// The largest step across an edge between macroblocks.
-    pub outer: u32,
+    pub outer: u16,
     /// The largest step across an edge within a macroblock.
-    pub inner: u32,
+    pub inner: u16,
     /// The largest difference of neighbours on one side.
-    pub interior: u32,
+    pub interior: u16,
     /// Differences next to the edge above this are high variance.
-    pub threshold: u32,
+    pub threshold: u16,
 }
 
-fn level_in(level: i32) -> u32
+fn level_in(level: i16) -> u16
     requires { Within 1000 level }
     ensures value { result ≡ level_in level }
     ensures small { result ≤ 63 }
@@ -32,50 +32,50 @@ fn level_in(level: i32) -> u32
     level.cast_unsigned().min(63)
 }
 
-fn segment_level(segments: &Option<(bool, [i8; 4])>, segment: u8, level: u8) -> u32
+fn segment_level(segments: &Option<(bool, [i8; 4])>, segment: u8, level: u8) -> u16
     requires { segment ≤ 3 }
     ensures value { result ≡ segment_level segments.now segment level }
     ensures small { result ≤ 255 }
 {
     let Some(data) = segments else {
-        return level as u32;
+        return level as u16;
     };
-    let own = data.1[segment as usize] as i32;
+    let own = data.1[segment as usize] as i16;
     if data.0 {
         level_in(own)
     } else {
-        level_in(level as i32 + own)
+        level_in(level as i16 + own)
     }
 }
 
-fn reference_delta(deltas: &[i8; 4], reference: RefKind) -> i32
+fn reference_delta(deltas: &[i8; 4], reference: RefKind) -> i16
     ensures value { result ≡ entry deltas.now (reference_number reference) }
     ensures small { Within 128 result }
 {
     match reference {
-        RefKind::Intra => deltas[0] as i32,
-        RefKind::Last => deltas[1] as i32,
-        RefKind::Golden => deltas[2] as i32,
-        RefKind::Alt => deltas[3] as i32,
+        RefKind::Intra => deltas[0] as i16,
+        RefKind::Last => deltas[1] as i16,
+        RefKind::Golden => deltas[2] as i16,
+        RefKind::Alt => deltas[3] as i16,
     }
 }
 
-fn mode_delta(deltas: &[i8; 4], mode: YMode) -> i32
+fn mode_delta(deltas: &[i8; 4], mode: YMode) -> i16
     ensures value { result ≡ mode_delta deltas.now mode }
     ensures small { Within 128 result }
 {
     match mode {
-        YMode::B => deltas[0] as i32,
-        YMode::ZERO => deltas[1] as i32,
-        YMode::NEAREST | YMode::NEAR | YMode::NEW => deltas[2] as i32,
-        YMode::SPLIT => deltas[3] as i32,
+        YMode::B => deltas[0] as i16,
+        YMode::ZERO => deltas[1] as i16,
+        YMode::NEAREST | YMode::NEAR | YMode::NEW => deltas[2] as i16,
+        YMode::SPLIT => deltas[3] as i16,
         YMode::DC | YMode::V | YMode::H | YMode::TM => 0,
     }
 }
 
 /// The level of a macroblock: its segment's, with the deltas of its reference and of its mode.
 #[tactic(auto, unfolding(crate::specs::Limits::level_of))]
-pub fn macroblock_level(head: &FilterHead, mode: &MbMode) -> u32
+pub fn macroblock_level(head: &FilterHead, mode: &MbMode) -> u16
     requires { mode.now.segment ≤ 3 }
     ensures value { result ≡ level_of head.now mode.now }
     ensures small { result ≤ 255 }
@@ -85,11 +85,11 @@ pub fn macroblock_level(head: &FilterHead, mode: &MbMode) -> u32
         return level;
     };
     let reference = reference_delta(&deltas.0, mode.reference);
-    level_in(level as i32 + reference + mode_delta(&deltas.1, mode.y))
+    level_in(level as i16 + reference + mode_delta(&deltas.1, mode.y))
 }
 
 #[tactic(auto, unfolding(crate::specs::Limits::interior_of))]
-fn interior(sharpness: u8, level: u32) -> u32
+fn interior(sharpness: u8, level: u16) -> u16
     requires { level ≤ 255 }
     ensures value { result ≡ interior_of sharpness level }
     ensures small { result ≤ 255 }
@@ -98,11 +98,11 @@ fn interior(sharpness: u8, level: u32) -> u32
         return level.max(1);
     }
     let shifted = if sharpness > 4 { level / 4 } else { level / 2 };
-    shifted.min(9u32.saturating_sub(sharpness as u32)).max(1)
+    shifted.min(9u16.saturating_sub(sharpness as u16)).max(1)
 }
 
 #[tactic(auto, unfolding(crate::specs::Limits::threshold_of))]
-fn threshold(key: bool, level: u32) -> u32
+fn threshold(key: bool, level: u16) -> u16
     ensures { result ≡ threshold_of key level }
 {
     if level < 15 {
@@ -120,7 +120,7 @@ fn threshold(key: bool, level: u32) -> u32
 
 /// The limits of a macroblock of this level.
 #[tactic(auto, unfolding(crate::specs::Limits::limits_of))]
-pub fn limits_at(key: bool, sharpness: u8, level: u32) -> Limits
+pub fn limits_at(key: bool, sharpness: u8, level: u16) -> Limits
     requires { level ≤ 255 }
     ensures { result ≡ limits_of key sharpness level }
 {

@@ -19,7 +19,7 @@ fn filter_plane(plane: &mut Plane, square: &Square, outer: &Edge, inner: &Edge, 
     requires rows { square.now.y + square.now.side ≤ plane.old.height }
     requires left { 0 < square.now.x → 4 ≤ square.now.x }
     requires top { 0 < square.now.y → 4 ≤ square.now.y }
-    requires side { 4 ≤ square.now.side }
+    requires side { (0 < square.now.side) × (square.now.side % 8 ≡ 0) }
     ensures value { plane.new ≡ record plane.old { samples = square_filtered outer.now inner.now within square.now plane.old.samples } }
     ensures plane { IsPlane plane.old.width plane.old.height plane.new }
 {

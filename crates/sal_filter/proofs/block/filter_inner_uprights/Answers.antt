@@ -5,7 +5,7 @@ pub loop-k-init : goal.loop-k-init
 loop-k-init c = fourths_none _ _
 
 pub filter_upright-requires-clause-fits : goal.filter_upright-requires-clause-fits
-filter_upright-requires-clause-fits c = fits_as_long _ _ _ c.loop-k.auto.samples c.requires.fits
+filter_upright-requires-clause-fits c = fits_as_long _ _ _ c.loop-k.auto.samples c.requires
 
 pub loop-k-preserved : goal.loop-k-preserved
 loop-k-preserved c = fourths_more _ _ _ _ _ c.loop-k.invariant c.filter_upright.ensures
