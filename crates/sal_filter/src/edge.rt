@@ -64,7 +64,9 @@ fn is_even_before(limit: u16, a: &Across) -> bool
     requires { AreBytes a.now }
     ensures { result ≡ is_even limit a.now.p3 a.now.p2 a.now.p1 a.now.p0 }
 {
-    a.p3.abs_diff(a.p2) <= limit && a.p2.abs_diff(a.p1) <= limit && a.p1.abs_diff(a.p0) <= limit
+    (a.p3.abs_diff(a.p2) <= limit)
+        & (a.p2.abs_diff(a.p1) <= limit)
+        & (a.p1.abs_diff(a.p0) <= limit)
 }
 
 #[inline(always)]
@@ -72,7 +74,9 @@ fn is_even_after(limit: u16, a: &Across) -> bool
     requires { AreBytes a.now }
     ensures { result ≡ is_even limit a.now.q3 a.now.q2 a.now.q1 a.now.q0 }
 {
-    a.q3.abs_diff(a.q2) <= limit && a.q2.abs_diff(a.q1) <= limit && a.q1.abs_diff(a.q0) <= limit
+    (a.q3.abs_diff(a.q2) <= limit)
+        & (a.q2.abs_diff(a.q1) <= limit)
+        & (a.q1.abs_diff(a.q0) <= limit)
 }
 
 #[inline(always)]
@@ -80,7 +84,7 @@ fn is_smooth(limit: u16, a: &Across) -> bool
     requires { AreBytes a.now }
     ensures { result ≡ is_smooth limit a.now }
 {
-    is_even_before(limit, a) && is_even_after(limit, a)
+    is_even_before(limit, a) & is_even_after(limit, a)
 }
 
 #[inline(always)]
@@ -88,7 +92,7 @@ fn is_steep(threshold: u16, a: &Across) -> bool
     requires { AreBytes a.now }
     ensures { result ≡ is_steep threshold a.now }
 {
-    a.p1.abs_diff(a.p0) > threshold || a.q1.abs_diff(a.q0) > threshold
+    (a.p1.abs_diff(a.p0) > threshold) | (a.q1.abs_diff(a.q0) > threshold)
 }
 
 // Whether the normal filter moves anything.
@@ -97,7 +101,7 @@ fn is_filtered(edge: &Edge, a: &Across) -> bool
     requires { AreBytes a.now }
     ensures { result ≡ (is_near edge.now.limit a.now && is_smooth edge.now.interior a.now) }
 {
-    is_near(edge.limit, a) && is_smooth(edge.interior, a)
+    is_near(edge.limit, a) & is_smooth(edge.interior, a)
 }
 
 #[inline(always)]
