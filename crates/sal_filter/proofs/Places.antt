@@ -1,5 +1,5 @@
 -- One place of an edge and many.
-use Rattle.std.proofs.Common.{◌≡◌, ◌∙◌, ap, refl, sym, arith, ℕ, zero, suc, ◌+◌, ◌*◌, Bool, true, false, ◌&&◌, cond, List, length, add-one, ℤ, ◌+ℤ◌, ◌-ℤ◌}
+use Rattle.std.proofs.Common.{subst, ◌≡◌, ◌∙◌, ap, refl, sym, arith, ℕ, zero, suc, ◌+◌, ◌*◌, Bool, true, false, ◌&&◌, cond, List, length, add-one, ℤ, ◌+ℤ◌, ◌-ℤ◌}
 use Rattle.std.proofs.lemmas.Int.{ints, clamps}
 use Rattle.std.proofs.lemmas.List.{length-set}
 use Rattle.sal_filter.specs.declared.across.Across.{Across}
@@ -71,17 +71,25 @@ simple_left e a b t n f = sym (by_simple e.sort e.limit e.interior e.threshold a
 pub simple_done : (e : Edge) (a m : Across) (b : Bool) → e.sort ≡ Simple → b ≡ is_near e.limit a → b ≡ true → m ≡ simple a → m ≡ edge_place e a
 simple_done e a m b t n f s = s ∙ sym (by_simple e.sort e.limit e.interior e.threshold a b t n ∙ chosen b true _ _ f)
 
-pub inner_left : (e : Edge) (a : Across) (b : Bool) → e.sort ≡ Inner → b ≡ (is_near e.limit a && is_smooth e.interior a) → b ≡ false → a ≡ edge_place e a
-inner_left e a b t n f = sym (by_inner e.sort e.limit e.interior e.threshold a b t n ∙ chosen b false _ _ f)
+pub inner_value : (e : Edge) (a m : Across) (b h : Bool) → e.sort ≡ Inner → b ≡ (is_near e.limit a && is_smooth e.interior a) → h ≡ is_steep e.threshold a → m ≡ cond b (inner h a) a → m ≡ edge_place e a
+inner_value e a m b h t n v s = s ∙ (ap (λ (k : Bool). cond b (inner k a) a) v ∙ sym (by_inner e.sort e.limit e.interior e.threshold a b t n))
 
-pub inner_done : (e : Edge) (a m : Across) (b h : Bool) → e.sort ≡ Inner → b ≡ (is_near e.limit a && is_smooth e.interior a) → b ≡ true → h ≡ is_steep e.threshold a → m ≡ inner h a → m ≡ edge_place e a
-inner_done e a m b h t n f v s = s ∙ (ap (λ (k : Bool). inner k a) v ∙ sym (by_inner e.sort e.limit e.interior e.threshold a b t n ∙ chosen b true _ _ f))
+either_inner : (b h : Bool) (a : Across) → AreSigned a → AreSigned (cond b (inner h a) a)
+either_inner true h a s = inner_signed h a s
+either_inner false h a s = s
 
-pub outer_left : (e : Edge) (a : Across) (b : Bool) → e.sort ≡ Outer → b ≡ (is_near e.limit a && is_smooth e.interior a) → b ≡ false → a ≡ edge_place e a
-outer_left e a b t n f = sym (by_outer e.sort e.limit e.interior e.threshold a b t n ∙ chosen b false _ _ f)
+pub inner_stays : (b h : Bool) (a m : Across) → AreSigned a → m ≡ cond b (inner h a) a → AreSigned m
+inner_stays b h a m s e = subst AreSigned (sym e) (either_inner b h a s)
 
-pub outer_done : (e : Edge) (a m : Across) (b h : Bool) → e.sort ≡ Outer → b ≡ (is_near e.limit a && is_smooth e.interior a) → b ≡ true → h ≡ is_steep e.threshold a → m ≡ outer h a → m ≡ edge_place e a
-outer_done e a m b h t n f v s = s ∙ (ap (λ (k : Bool). outer k a) v ∙ sym (by_outer e.sort e.limit e.interior e.threshold a b t n ∙ chosen b true _ _ f))
+pub outer_value : (e : Edge) (a m : Across) (b h : Bool) → e.sort ≡ Outer → b ≡ (is_near e.limit a && is_smooth e.interior a) → h ≡ is_steep e.threshold a → m ≡ cond b (outer h a) a → m ≡ edge_place e a
+outer_value e a m b h t n v s = s ∙ (ap (λ (k : Bool). cond b (outer k a) a) v ∙ sym (by_outer e.sort e.limit e.interior e.threshold a b t n))
+
+either_outer : (b h : Bool) (a : Across) → AreSigned a → AreSigned (cond b (outer h a) a)
+either_outer true h a s = outer_signed h a s
+either_outer false h a s = s
+
+pub outer_stays : (b h : Bool) (a m : Across) → AreSigned a → m ≡ cond b (outer h a) a → AreSigned m
+outer_stays b h a m s e = subst AreSigned (sym e) (either_outer b h a s)
 
 -- one place in the samples
 pub place_done : (e : Edge) (at step : ℕ) (xs ys : List ℕ) (a m : Across) → a ≡ across xs at step → m ≡ edge_place e a → ys ≡ across_put at step m xs → ys ≡ place_put e at step xs

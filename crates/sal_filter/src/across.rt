@@ -1,9 +1,9 @@
 //! The filters of one place of an edge (RFC 6386, sections 15.2 and 15.3).
 
-ghost use Rattle.std.specs.Prelude.{◌≡◌, ◌+◌, ◌*◌, ◌≤◌, ◌<◌, ℤ, pos, neg_ℤ, ◌+ℤ◌, ◌-ℤ◌, ◌*ℤ◌, ◌≤ℤ◌};
+ghost use Rattle.std.specs.Prelude.{◌≡◌, ◌+◌, ◌*◌, ◌≤◌, ◌<◌, ℤ, pos, neg_ℤ, ◌+ℤ◌, ◌-ℤ◌, ◌*ℤ◌, ◌≤ℤ◌, if◌then◌else◌};
 ghost use Rattle.std.specs.Int.{int_shr};
 ghost use Rattle.sal_macroblock.specs.Sizes.{Within};
-ghost use Rattle.sal_filter.specs.Edges.{AreBytes, s, distance, is_near, is_smooth, is_steep, lost, gained, common, step, simple, half_lost, inner_step, inner, part, outer};
+ghost use Rattle.sal_filter.specs.Edges.{AreBytes, AreSigned, s, lost, gained, common, step, simple, half_lost, inner, part, outer};
 
 /// Samples less 128, by their distance from the edge: p before it, q after it.
 #[derive(Clone, Copy, Debug, PartialEq, Eq)]
@@ -150,17 +150,28 @@ pub fn simple(a: Across) -> Across
     common(w, a)
 }
 
-/// The filter within a macroblock; without high variance it also moves the next two samples by half as much.
+// One of two numbers, without a branch.
 #[inline(always)]
-pub fn inner(steep: bool, a: Across) -> Across
-    requires bytes { AreBytes a }
-    ensures value { result ≡ inner steep a }
+fn choose(which: bool, x: i16, y: i16) -> i16
+    requires x { Within 128 x }
+    requires y { Within 128 y }
+    ensures value { result ≡ (if which then x else y) }
+    ensures small { Within 128 result }
 {
-    if steep {
-        return simple(a);
-    }
-    let w = step(0, a.p0, a.q0);
-    let (half, up, down) = (half_lost(w), gained(w), lost(w));
+    if which { x } else { y }
+}
+
+/// The filter within a macroblock, where it moves anything; without high variance it also moves the next two samples by
+/// half as much. It has no branches, so that the compiler filters many places by one instruction.
+#[inline(always)]
+pub fn inner_where(moves: bool, steep: bool, a: Across) -> Across
+    requires signed { AreSigned a }
+    ensures value { result ≡ (if moves then inner steep a else a) }
+{
+    let across = choose(steep, moved_back(a.p1, a.q1), 0);
+    let w = choose(moves, step(across, a.p0, a.q0), 0);
+    let half = choose(steep, 0, half_lost(w));
+    let (up, down) = (gained(w), lost(w));
     Across {
         p3: a.p3,
         p2: a.p2,
@@ -173,24 +184,24 @@ pub fn inner(steep: bool, a: Across) -> Across
     }
 }
 
-/// The filter between macroblocks; without high variance it moves three samples on each side.
-#[tactic(auto, unfolding(crate::specs::Edges::outer))]
+/// The filter between macroblocks, where it moves anything; without high variance it moves three samples on each side.
 #[inline(always)]
-pub fn outer(steep: bool, a: Across) -> Across
-    requires bytes { AreBytes a }
-    ensures value { result ≡ outer steep a }
+pub fn outer_where(moves: bool, steep: bool, a: Across) -> Across
+    requires signed { AreSigned a }
+    ensures value { result ≡ (if moves then outer steep a else a) }
 {
-    let w = step(moved_back(a.p1, a.q1), a.p0, a.q0);
-    if steep {
-        return common(w, a);
-    }
-    let (near, middle, far) = (part_27(w), part_18(w), part_9(w));
+    let w = choose(moves, step(moved_back(a.p1, a.q1), a.p0, a.q0), 0);
+    let near = part_27(w);
+    let up = choose(steep, gained(w), near);
+    let down = choose(steep, lost(w), near);
+    let middle = choose(steep, 0, part_18(w));
+    let far = choose(steep, 0, part_9(w));
     Across {
         p3: a.p3,
         p2: moved(a.p2, far),
         p1: moved(a.p1, middle),
-        p0: moved(a.p0, near),
-        q0: moved_back(a.q0, near),
+        p0: moved(a.p0, up),
+        q0: moved_back(a.q0, down),
         q1: moved_back(a.q1, middle),
         q2: moved_back(a.q2, far),
         q3: a.q3,

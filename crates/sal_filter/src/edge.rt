@@ -5,7 +5,7 @@ ghost use Rattle.sal_filter.specs.Edges.{AreBytes, AreSigned, IsSigned, is_near,
 ghost use Rattle.sal_filter.specs.Filtered.{plus_128, across, across_put, place_put, edge_filtered, edge_of};
 ghost use Rattle.sal_filter.specs.Lanes.{edge_place};
 
-use crate::across::{Across, inner, outer, simple};
+use crate::across::{Across, inner_where, outer_where, simple};
 use crate::limits::Limits;
 
 /// The three filters.
@@ -64,9 +64,7 @@ fn is_even_before(limit: u16, a: &Across) -> bool
     requires { AreBytes a.now }
     ensures { result ≡ is_even limit a.now.p3 a.now.p2 a.now.p1 a.now.p0 }
 {
-    (a.p3.abs_diff(a.p2) <= limit)
-        & (a.p2.abs_diff(a.p1) <= limit)
-        & (a.p1.abs_diff(a.p0) <= limit)
+    (a.p3.abs_diff(a.p2) <= limit) & (a.p2.abs_diff(a.p1) <= limit) & (a.p1.abs_diff(a.p0) <= limit)
 }
 
 #[inline(always)]
@@ -74,9 +72,7 @@ fn is_even_after(limit: u16, a: &Across) -> bool
     requires { AreBytes a.now }
     ensures { result ≡ is_even limit a.now.q3 a.now.q2 a.now.q1 a.now.q0 }
 {
-    (a.q3.abs_diff(a.q2) <= limit)
-        & (a.q2.abs_diff(a.q1) <= limit)
-        & (a.q1.abs_diff(a.q0) <= limit)
+    (a.q3.abs_diff(a.q2) <= limit) & (a.q2.abs_diff(a.q1) <= limit) & (a.q1.abs_diff(a.q0) <= limit)
 }
 
 #[inline(always)]
@@ -178,11 +174,7 @@ fn inner_moved(edge: &Edge, a: Across) -> Across
     ensures value { result ≡ edge_place edge.now a }
     ensures signed { AreSigned result }
 {
-    if is_filtered(edge, &a) {
-        inner(is_steep(edge.threshold, &a), a)
-    } else {
-        a
-    }
+    inner_where(is_filtered(edge, &a), is_steep(edge.threshold, &a), a)
 }
 
 // One place between macroblocks.
@@ -193,11 +185,7 @@ fn outer_moved(edge: &Edge, a: Across) -> Across
     ensures value { result ≡ edge_place edge.now a }
     ensures signed { AreSigned result }
 {
-    if is_filtered(edge, &a) {
-        outer(is_steep(edge.threshold, &a), a)
-    } else {
-        a
-    }
+    outer_where(is_filtered(edge, &a), is_steep(edge.threshold, &a), a)
 }
 
 #[inline(always)]

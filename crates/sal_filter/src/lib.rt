@@ -9,7 +9,7 @@ mod lanes;
 mod limits;
 mod picture;
 
-pub use across::{Across, inner, outer, simple};
+pub use across::Across;
 pub use head::{FilterHead, MbInfo};
 pub use limits::Limits;
 pub use picture::filter_picture;

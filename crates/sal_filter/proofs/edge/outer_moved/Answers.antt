@@ -1,13 +1,8 @@
-use Rattle.std.proofs.Common.{sym, subst}
-use Rattle.sal_filter.specs.Edges.{AreSigned}
-use Rattle.sal_filter.proofs.Places.{outer_signed, outer_left, outer_done}
+use Rattle.sal_filter.proofs.Places.{outer_value, outer_stays}
 use Rattle.sal_filter.proofs.edge.outer_moved.Goals as goal
 
-pub returns-then-is_filtered-clause-value : goal.returns-then-is_filtered-clause-value
-returns-then-is_filtered-clause-value c = outer_done _ _ _ _ _ c.requires.sort c.is_filtered.ensures c.if-is_filtered.true c.is_steep.ensures c.outer.ensures.value
+pub returns-clause-value : goal.returns-clause-value
+returns-clause-value c = outer_value _ _ _ _ _ c.requires.sort c.is_filtered.ensures c.is_steep.ensures c.outer_where.ensures.value
 
-pub returns-then-is_filtered-clause-signed : goal.returns-then-is_filtered-clause-signed
-returns-then-is_filtered-clause-signed c = subst AreSigned (sym c.outer.ensures.value) (outer_signed _ _ c.requires.signed)
-
-pub returns-else-is_filtered-clause-value : goal.returns-else-is_filtered-clause-value
-returns-else-is_filtered-clause-value c = outer_left _ _ _ c.requires.sort c.is_filtered.ensures c.if-is_filtered.false
+pub returns-clause-signed : goal.returns-clause-signed
+returns-clause-signed c = outer_stays _ _ _ _ c.requires.signed c.outer_where.ensures.value
