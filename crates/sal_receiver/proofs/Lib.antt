@@ -1,5 +1,5 @@
 mod FrameLemmas
-mod PartsLemmas
+pub mod PartsLemmas
 mod Lasting
 mod LeastLemmas
 mod LabelLemmas
@@ -18,6 +18,6 @@ mod SeenLemmas
 mod BookLemmas
 mod ShareLemmas
 mod FeedLemmas
-mod Was
+pub mod Was
 pub mod Holding
 pub mod Served

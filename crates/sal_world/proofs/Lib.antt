@@ -24,3 +24,5 @@ pub mod SenderSteps
 pub mod ReceiverSteps
 pub mod ChoiceSteps
 pub mod Stepped
+pub mod OwnJobs
+pub mod OwnFrames

@@ -11,6 +11,8 @@ use Rattle.sal_sender.specs.OneThread.{Session}
 use Rattle.sal_sender.specs.Choosing.{chosen}
 use Rattle.sal_receiver.specs.declared.answers.Done.{Done}
 use Rattle.sal_receiver.specs.declared.answers.Done.TheVariants.{Stranger, Returned, Unfit, Misnamed, Older, Show}
+use Rattle.sal_sender.specs.Stands.{IsOwnWork}
+use Rattle.sal_receiver.specs.Work.{IsFrameOf}
 use Rattle.sal_receiver.specs.Past.{Call, Outcome, Decoding}
 use Rattle.sal_receiver.specs.Promises.{IsFit as IsFitCall}
 use Rattle.sal_receiver.specs.Ready.{ready, frame, decoding_of}
@@ -19,6 +21,8 @@ use Rattle.sal_world.specs.declared.event.Event.{Event as Given}
 use Rattle.sal_world.specs.declared.event.Event.TheVariants.{Next as GivenNext, Take as GivenTake, Report as GivenReport, Choose as GivenChoose, Down as GivenDown, Up as GivenUp, Ready as GivenReady, Decoded as GivenDecoded, Moment as GivenMoment}
 use Rattle.sal_world.specs.declared.event.Answer.{Answer}
 use Rattle.sal_world.specs.declared.event.Answer.TheVariants.{Decoded as DecodedSaid, Memory}
+use Rattle.sal_world.proofs.OwnJobs.{own_job, own_size}
+use Rattle.sal_world.proofs.OwnFrames.{own_frame}
 use Rattle.sal_world.specs.World.{Event, Next, Take, Reports, Chooses, Down, Up, Ready, Decodes, Moment, World, sent, acks, member, delivers, hears, happens, after}
 use Rattle.sal_world.specs.Promises.{IsSession, IsOfSize, Names, Holds, NothingIsRefused}
 use Rattle.sal_world.specs.Both.{Both}
@@ -88,7 +92,22 @@ module _ {C S : Type 0} (codec : Coding S) (session : Session) where
   size_of w (GivenDecoded decoding) fit = tt
   size_of w (GivenMoment moment) fit = tt
 
-  pub stepped : (old new : Both S) (events : List Event) (event : Given C S) (answer : Answer C S) → Stands codec session old events → May codec session events event → Happened codec session new (after codec session events) (said event) answer → Stepped codec session new events event answer
+  -- what ran of what the events handed out is own work
+  pub fits : (events : List Event) (event : Given C S) → Each (IsOfSize session) events → May codec session events event → IsFit codec session (after codec session events) event
+  fits events (GivenNext picture) sizes may = may
+  fits events GivenTake sizes may = tt
+  fits events (GivenReport report) sizes may = (
+    own_size codec session may.later may.before report.work (subst (λ es. Each (IsOfSize session) es) may.events_are sizes) may.next,
+    subst (λ es. IsOwnWork codec (after codec session es).sender report.work) (sym may.events_are) (own_job codec session may.later may.before report.work may.next),
+  )
+  fits events GivenChoose sizes may = tt
+  fits events (GivenDown which) sizes may = tt
+  fits events (GivenUp which) sizes may = tt
+  fits events GivenReady sizes may = tt
+  fits events (GivenDecoded decoding) sizes may = λ out. subst (λ es. IsFrameOf codec (after codec session es).receiver decoding.handed) (sym may.events_are) (own_frame codec session may.later may.before decoding.handed may.next)
+  fits events (GivenMoment moment) sizes may = tt
+
+  pub stepped : (old new : Both S) (events : List Event) (event : Given C S) (answer : Answer C S) → Stands codec session old events → IsFit codec session (after codec session events) event → Happened codec session new (after codec session events) (said event) answer → Stepped codec session new events event answer
   stepped old new events event answer stands fit (inl memory) = inl memory
   stepped old new events event answer stands fit (inr did) = inr (
     did.0,

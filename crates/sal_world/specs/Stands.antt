@@ -36,17 +36,34 @@ module _ {S : Type 0} (codec : Coding S) (session : Session) where
     pub sizes : Each (IsOfSize session) events
     pub world : IsWorld b (after codec session events)
 
+  -- one of these events handed out this job
+  pub record WasHandedOut (events : List Event) (work : JobWork S) : Type 0 where
+    pub later : List Event
+    pub before : List Event
+    pub events_are : events ≡ later ++ Take ∷ before
+    pub next : next_job codec (after codec session before).sender ≡ Some work
+
+  -- one of these events handed out this frame
+  pub record WasReady (events : List Event) (handed : Handed S) : Type 0 where
+    pub later : List Event
+    pub before : List Event
+    pub events_are : events ≡ later ++ Ready ∷ before
+    pub next : next_frame codec (after codec session before).receiver ≡ Some handed
+
 module _ {C S : Type 0} (codec : Coding S) (session : Session) where
-  -- what may be given to a world: pictures of the session's size, and what ran of what its machines handed out
+  -- what may be given after these events: a picture of the session's size, and what ran of what they handed out
+  abbrev pub May : List Event → Given C S → Type 0
+  May events (GivenNext picture) = HasSize session (arc_value picture)
+  May events (GivenReport report) = WasHandedOut codec session events report.work
+  May events (GivenDecoded decoding) = WasReady codec session events decoding.handed
+  May events _ = Unit {0}
+
+  -- what either end may be given: a report or a decoding is of what it handed out
   abbrev pub IsFit : World S → Given C S → Type 0
   IsFit w (GivenNext picture) = HasSize session (arc_value picture)
   IsFit w (GivenReport report) = HasSize session report.work.samples × IsOwnWork codec w.sender report.work
   IsFit w (GivenDecoded decoding) = IsOwn codec w.receiver decoding.handed
   IsFit w _ = Unit {0}
-
-  -- the same after these events
-  abbrev pub May : List Event → Given C S → Type 0
-  May events event = IsFit (after codec session events) event
 
   -- an event happened and was answered as it is, or there was no memory for it
   abbrev pub Happened : Both S → World S → Event → Answer C S → Type 0

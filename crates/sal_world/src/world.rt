@@ -128,6 +128,13 @@ impl<C: Codec> World<C> {
         self.acks.len() as u64
     }
 
+    /// The moment, in microseconds: the greatest that was given.
+    pub fn moment(&self) -> u64
+        ensures { result ≡ self.now.moment }
+    {
+        self.moment
+    }
+
     /// A picture is started.
     fn start(&mut self, picture: Arc<Picture>) -> Answer<C>
         requires size { HasSides self.old.sender.session.head.width self.old.sender.session.head.height (arc_value picture) }
@@ -242,7 +249,7 @@ impl<C: Codec> World<C> {
 
     /// What an event makes of the world.
     fn happen(&mut self, event: Event<C>) -> Answer<C>
-        requires { (session : Session) × ((w : WorldOf C.State) × (IsWorld C.coding session self.old w × IsFit C.coding session w event)) }
+        requires fit { (session : Session) × ((w : WorldOf C.State) × (IsWorld C.coding session self.old w × IsFit C.coding session w event)) }
         ensures answered { (session : Session) (w : WorldOf C.State) → IsWorld C.coding session self.old w → IsFit C.coding session w event → Happened C.coding session self.new w (said event) result }
         ensures refused { is_refused result ≡ true → self.new ≡ self.old }
     {

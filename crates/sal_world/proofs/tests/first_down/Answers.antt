@@ -1,5 +1,5 @@
 use Rattle.std.proofs.Common.{[]}
 use Rattle.sal_world.proofs.tests.first_down.Goals as goal
 
-pub step-requires : goal.step-requires
-step-requires c = (_, ([], (c.in-Ok.ensures, tt)))
+pub step-requires-clause-may : goal.step-requires-clause-may
+step-requires-clause-may g c κs within = (_, ([], (c.in-Ok.ensures, tt)))

@@ -1,5 +1,0 @@
-use Rattle.std.proofs.Common.{[]}
-use Rattle.sal_world.proofs.tests.first_up.Goals as goal
-
-pub step-requires : goal.step-requires
-step-requires c = (_, ([], (c.in-Ok.ensures, tt)))
