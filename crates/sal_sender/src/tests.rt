@@ -34,6 +34,8 @@ enum Event {
     Send(u8),
     // An acknowledgement with a serial and the numbers held, under the names that their datagrams said.
     Hear(u8, &'static [u8]),
+    // An acknowledgement comes without its last byte.
+    HearCut,
     // The time goes on.
     Wait(u64),
 }
@@ -195,7 +197,13 @@ fn hear(sender: &mut Sender<Plain>, notes: &Notes, serial: u8, numbers: &[u8]) -
     let Some(bytes) = acknowledgement(notes.alloc, notes.names.as_slice(), serial, numbers) else {
         return Said::Memory;
     };
-    match sender.heard(bytes.as_slice(), notes.moment) {
+    heard(sender, bytes.as_slice(), notes.moment)
+}
+
+fn heard(sender: &mut Sender<Plain>, bytes: &[u8], moment: u64) -> Said
+    ensures { sender.new.session ≡ sender.old.session }
+{
+    match sender.heard(bytes, moment) {
         HeardAck::Heard(numbers) => Said::Heard(numbers.as_slice().len()),
         HeardAck::Ignored(why) => Said::Ignored(why),
     }
@@ -212,6 +220,7 @@ fn step(sender: &mut Sender<Plain>, notes: &mut Notes, side: u16, event: Event) 
         Event::Choose => Some(choose(sender, notes)),
         Event::Send(count) => Some(send(sender, notes, side, count)),
         Event::Hear(serial, numbers) => Some(hear(sender, notes, serial, numbers)),
+        Event::HearCut => Some(heard(sender, &OLD[..14], notes.moment)),
         Event::Wait(time) => {
             notes.moment = notes.moment.saturating_add(time);
             None
@@ -262,8 +271,9 @@ fn played(alloc: Global, side: u16, events: &[Event]) -> Option<Vec<Said>>
     }
 }
 
-// A report that comes after the choice is late, and one datagram was sent.
-const LATE: ([Event; 9], [Said; 9]) = (
+// A report that comes after the choice is late, and one datagram was sent: the serial after it wasn't, and a cut
+// acknowledgement is too short.
+const LATE: ([Event; 11], [Said; 11]) = (
     [
         Event::Choose,
         Event::Start(128),
@@ -274,6 +284,8 @@ const LATE: ([Event; 9], [Said; 9]) = (
         Event::Run,
         Event::Run,
         Event::Choose,
+        Event::Hear(2, &[]),
+        Event::HearCut,
     ],
     [
         Said::NoPicture,
@@ -285,6 +297,11 @@ const LATE: ([Event; 9], [Said; 9]) = (
         Said::Reported(Reported::Late),
         Said::NoJob,
         Said::NoPicture,
+        Said::Ignored(Ignore::Serial(1, 2)),
+        Said::Ignored(Ignore::Wire(WireFault {
+            what: Wire::Short,
+            place: 14,
+        })),
     ],
 );
 
