@@ -1,4 +1,5 @@
 mod Examples
 mod ModesRead
 mod SmallFrames
+mod TokensRead
 mod WholeFrames

@@ -1,4 +1,5 @@
 pub mod Decode
 pub mod FirstPartition
+pub mod Standing
 pub mod Syntax
 pub mod TokenPartitions

@@ -4,3 +4,4 @@
 
 mod macroblock;
 mod modes;
+mod tokens;

@@ -24,8 +24,8 @@ use sal_probs::Probs;
 use sal_state::{Reference, References};
 use sal_tokens::{Contexts, read_macroblock, skip_macroblock};
 
-// The levels of a macroblock, and whether some block's first token isn't the end; a skipped one has none.
-fn read_levels(
+/// The levels of a macroblock, and whether some block's first token isn't the end; a skipped one has none.
+pub(crate) fn read_levels(
     decoder: &mut Decoder<'_>,
     probs: &Probs,
     mode: &MbMode,
@@ -44,8 +44,8 @@ fn read_levels(
     read_macroblock(decoder, probs, mode.has_y2(), above, left, levels)
 }
 
-// Builds a macroblock at a column and row, from its own picture or from the reference that its mode names.
-fn build(
+/// Builds a macroblock at a column and row, from its own picture or from the reference that its mode names.
+pub(crate) fn build(
     planes: &mut Planes,
     references: Option<&References>,
     header: &Header,

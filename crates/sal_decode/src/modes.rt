@@ -1,8 +1,10 @@
 //! The modes of all macroblocks of a frame (RFC 6386, section 19.3).
 
-ghost use Rattle.std.specs.Prelude.{◌≡◌, ◌*◌, ◌≤◌, [], IfOk, length};
+ghost use Rattle.std.specs.Prelude.{◌≡◌, ◌*◌, ◌≤◌, [], All, IfOk, length, true};
 ghost use Rattle.sal_bool.specs.Syntax.{run};
+ghost use Rattle.sal_modes.specs.Modes.{HasFittingModes};
 ghost use Rattle.sal_decode.specs.FirstPartition.{mb_modes};
+ghost use Rattle.sal_decode.specs.Standing.{IsIntraKind};
 
 use sal_base::Memory;
 use sal_bool::Decoder;
@@ -25,6 +27,8 @@ pub(crate) fn read_modes(
     requires rows { (1 ≤ rows) × (rows ≤ 45) }
     ensures reads { IfOk result (λ ms. run (mb_modes header.now probs.now columns rows (columns * rows) []) decoder.old ≡ (ms.items, decoder.new)) }
     ensures count { IfOk result (λ ms. length ms.items ≡ columns * rows) }
+    ensures fitting { IfOk result (λ ms. All HasFittingModes ms.items) }
+    ensures key { header.now.key ≡ true → IfOk result (λ ms. All IsIntraKind ms.items) }
 {
     let mut context = Row::new(alloc, columns, rows)?;
     let mut modes = Vec::new(alloc);

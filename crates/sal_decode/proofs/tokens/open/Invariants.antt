@@ -1,0 +1,12 @@
+use Rattle.std.proofs.Common.{◌≡◌, ◌<◌, ◌≤◌, ℕ, List, [], length, take, slice_index_or, slice_range, ◌+◌}
+use Rattle.sal_bool.specs.Bits.{start}
+use Rattle.sal_bool.specs.Reading.{StandsFor, opened}
+use Rattle.sal_decode.specs.TokenPartitions.{part_bytes}
+use Rattle.sal_decode.proofs.tokens.open.Given as goal
+
+abbrev pub invariant-loop-k : goal.invariant-loop-k
+invariant-loop-k l = record {
+  count : length l.decoders.items ≡ l.k;
+  fits : l.k ≤ length l.parts.at;
+  stand : (p : ℕ) → p < l.k → StandsFor (part_bytes l.bytes l.parts.at p) start (slice_index_or l.decoders.items p (opened []));
+}
