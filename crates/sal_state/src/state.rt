@@ -96,6 +96,7 @@ impl State {
     pub fn kept(&self) -> &Kept
         ensures kept { result.now ≡ self.now.kept }
         ensures segments { All (λ segment. segment < 4) result.now.map }
+        ensures map { IfSome self.now.references (λ r. length result.now.map ≡ blocks_of r.width * blocks_of r.height) }
     {
         &self.kept
     }
