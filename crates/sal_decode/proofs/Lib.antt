@@ -1,4 +1,6 @@
 mod Examples
+mod FrameRead
+mod HeadRead
 mod ModesRead
 mod SmallFrames
 mod TokensRead

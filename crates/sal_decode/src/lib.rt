@@ -2,6 +2,7 @@
 //! (RFC 6386, sections 9 and 19).
 #![tactic(auto)]
 
+mod head;
 mod macroblock;
 mod modes;
 mod tokens;
