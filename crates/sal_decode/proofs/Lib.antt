@@ -1,6 +1,8 @@
 mod Examples
 mod FrameRead
+mod Going
 mod HeadRead
+mod MapAfter
 mod ModesRead
 mod SmallFrames
 mod TokensRead

@@ -2,7 +2,10 @@
 //! (RFC 6386, sections 9 and 19).
 #![tactic(auto)]
 
+mod after;
 mod head;
 mod macroblock;
 mod modes;
+mod picture;
+mod segment;
 mod tokens;

@@ -28,7 +28,8 @@ pub(crate) struct Tokens<'a> {
 fn open<'a>(alloc: Global, bytes: &'a [u8], parts: &Parts) -> Result<Vec<Decoder<'a>>, Memory>
     requires count { parts.now.count ≤ 8 }
     requires inside { AreInside (length bytes.now) parts.now.at parts.now.count }
-    ensures { IfOk result (λ ds. AreOpened bytes.now (take parts.now.count parts.now.at) ds.items) }
+    ensures opened { IfOk result (λ ds. AreOpened bytes.now (take parts.now.count parts.now.at) ds.items) }
+    ensures count { IfOk result (λ ds. length ds.items ≡ parts.now.count) }
 {
     let mut decoders = Vec::new(alloc);
     decoders.reserve(8)?;
@@ -56,7 +57,8 @@ impl<'a> Tokens<'a> {
     ) -> Result<Tokens<'a>, Memory>
         requires count { parts.now.count ≤ 8 }
         requires inside { AreInside (length bytes.now) parts.now.at parts.now.count }
-        ensures { IfOk result (λ t. Holds bytes.now (take parts.now.count parts.now.at) columns (begun (length (take parts.now.count parts.now.at)) columns) t.decoders.items t.above.items t.left) }
+        ensures count { IfOk result (λ t. length t.decoders.items ≡ parts.now.count) }
+        ensures holds { IfOk result (λ t. Holds bytes.now (take parts.now.count parts.now.at) columns (begun (length (take parts.now.count parts.now.at)) columns) t.decoders.items t.above.items t.left) }
     {
         let decoders = open(alloc, bytes, parts)?;
         let above = vec![in alloc; Contexts::none(); columns]?;

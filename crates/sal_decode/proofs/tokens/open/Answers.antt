@@ -10,7 +10,7 @@ loop-k-preserved c =
       stand = λ p lt. one_opened c.args.bytes.now c.args.parts.now.at c.loop-k.k c.loop-k.decoders.items c.new.result p c.loop-k.invariant.count c.loop-k.invariant.stand c.new.ensures.exact lt;
     })
 
-pub returns : goal.returns
-returns c =
+pub returns-clause-opened : goal.returns-clause-opened
+returns-clause-opened c =
     let e : c.loop-k.k ≡ c.args.parts.now.count = omega (arith, c.loop-k-test.false, c.loop-k.auto.k-end) in
     all_opened c.args.bytes.now c.args.parts.now.at c.args.parts.now.count c.loop-k.decoders.items (omega (arith, c.loop-k.invariant.fits, e)) (c.loop-k.invariant.count ∙ e) (λ p lt. c.loop-k.invariant.stand p (omega (arith, lt, e)))
