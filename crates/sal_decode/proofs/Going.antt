@@ -1,5 +1,5 @@
 -- A frame's macroblocks in raster order: read, built and noted one after the other.
-use Rattle.std.proofs.Common.{◌≡◌, ℕ, ℤ, suc, ◌+◌, ◌*◌, ◌/◌, ◌%◌, ◌<◌, ◌≤◌, ◌∙◌, List, [], ◌∷◌, ◌++◌, Bool, All, map, drop, length, get_or, refl, sym, ap, subst, arith, mod-lt, add-one, drop-cons, append_assoc, length-append}
+use Rattle.std.proofs.Common.{◌≡◌, ℕ, ℤ, ◌+◌, ◌*◌, ◌/◌, ◌%◌, ◌<◌, ◌≤◌, ◌∙◌, List, [], ◌∷◌, ◌++◌, Bool, All, map, drop, length, get_or, refl, sym, ap, subst, arith, mod-lt, add-one, drop-cons, append_assoc, length-append}
 use Rattle.std.proofs.lemmas.List.{append-nil, drop_all}
 use Rattle.std.proofs.Math.Nat.{div-lt_iff_lt-mul}
 use Rattle.std.proofs.lemmas.List.Elements.{All-nil, All-push}
@@ -10,7 +10,6 @@ use Rattle.sal_header.specs.declared.header.Header.{Header}
 use Rattle.sal_macroblock.specs.declared.mode.MbMode.{MbMode}
 use Rattle.sal_filter.specs.declared.head.MbInfo.{MbInfo}
 use Rattle.sal_tokens.specs.declared.contexts.Contexts.{Contexts}
-use Rattle.sal_tokens.specs.Blocks.{Tokens}
 use Rattle.sal_probs.specs.Probabilities.{Table, used}
 use Rattle.sal_state.specs.States.{References, StateData, HasBlocks}
 use Rattle.sal_frame.specs.Records.{Macroblock, macroblock, Record, columns_of, segment_steps, info_of}

@@ -1,20 +1,15 @@
 -- The head of a frame: its header says the tag's kind, and what is read one after the other is the frame.
-use Rattle.std.proofs.Common.{◌≡◌, ℕ, suc, ◌*◌, ◌^◌, ◌≤◌, ◌∙◌, List, [], Bool, Result, Ok, Err, IfErr, refl, sym, ap, length, lit≤, arith}
-use Rattle.sal_base.specs.declared.coding.Fault.{Fault}
-use Rattle.sal_base.specs.Pictures.{blocks_of}
+use Rattle.std.proofs.Common.{◌≡◌, ℕ, ◌*◌, ◌∙◌, List, [], Bool, refl, sym, ap}
 use Rattle.sal_bool.specs.Bits.{start}
 use Rattle.sal_bool.specs.Reading.{Reading, StandsFor, next_bit, after_bit}
-use Rattle.sal_bool.specs.Syntax.{Syntax, Done, Bit, ◌>>=◌, byte, read, run, when, flag, literal}
+use Rattle.sal_bool.specs.Syntax.{Syntax, Done, Bit, ◌>>=◌, byte, read, run}
 use Rattle.sal_bool.proofs.Meaning.{run_exact, run_on, run_done}
 use Rattle.sal_probs.specs.Probabilities.{used}
 use Rattle.sal_header.specs.declared.tag.Tag.{Tag}
 use Rattle.sal_header.specs.declared.header.Kept.{Kept}
 use Rattle.sal_header.specs.declared.header.Header.{Header}
-use Rattle.sal_header.specs.Tags.{tag_of, first_part_of, parts_of}
-use Rattle.sal_header.specs.Headers.{header_over, header_of, header_made, segments, filtering, quantisers, refreshing, coefficient_updates, modes}
+use Rattle.sal_header.specs.Headers.{header_over, header_of, header_made}
 use Rattle.sal_macroblock.specs.declared.mode.MbMode.{MbMode}
-use Rattle.sal_state.specs.States.{StateData}
-use Rattle.sal_frame.specs.Records.{Record}
 use Rattle.sal_decode.specs.FirstPartition.{mb_modes, first_partition}
 
 -- P of all that a meaning can lead to

@@ -1,4 +1,5 @@
 mod Examples
+mod Finished
 mod FrameRead
 mod Going
 mod HeadRead

@@ -1,5 +1,5 @@
 -- The segments of macroblocks, as the loop filter's data of them has them.
-use Rattle.std.proofs.Common.{◌≡◌, ℕ, ◌<◌, ◌≤◌, ◌∙◌, List, [], ◌∷◌, All, true, if◌then◌else◌, ◌==◌, map, replicate, length, refl, sym, ap, arith}
+use Rattle.std.proofs.Common.{◌≡◌, ℕ, ◌<◌, ◌≤◌, ◌∙◌, List, [], ◌∷◌, All, true, if◌then◌else◌, map, replicate, length, refl, sym, ap, arith}
 use Rattle.std.proofs.lemmas.List.Elements.{All-map}
 use Rattle.sal_header.specs.declared.header.Header.{Header}
 use Rattle.sal_filter.specs.declared.head.MbInfo.{MbInfo}

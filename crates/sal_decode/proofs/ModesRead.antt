@@ -1,9 +1,8 @@
 -- The modes of all macroblocks, read one after the other over a row and the one above it.
-use Rattle.std.proofs.Common.{◌≡◌, ℕ, suc, zero, ◌+◌, ◌-◌, ◌*◌, ◌/◌, ◌%◌, ◌<◌, ◌≤◌, ◌==◌, ◌||◌, List, [], ◌∷◌, ◌++◌, Bool, if◌then◌else◌, length, refl, ap, sym, ◌∙◌, subst, arith}
+use Rattle.std.proofs.Common.{◌≡◌, ℕ, suc, ◌+◌, ◌-◌, ◌*◌, ◌%◌, ◌<◌, ◌≤◌, ◌==◌, ◌||◌, List, [], ◌∷◌, ◌++◌, if◌then◌else◌, length, ap, sym, ◌∙◌, subst, arith}
 use Rattle.std.proofs.lemmas.List.{length-append}
-use Rattle.std.proofs.lemmas.Nat.{mul-le}
 use Rattle.sal_bool.specs.Reading.{Reading}
-use Rattle.sal_bool.specs.Syntax.{Syntax, run, ◌>>=◌}
+use Rattle.sal_bool.specs.Syntax.{run}
 use Rattle.sal_bool.proofs.Meaning.{run_on, run_done}
 use Rattle.sal_probs.specs.Probabilities.{Table}
 use Rattle.sal_header.specs.declared.header.Header.{Header}
@@ -12,9 +11,9 @@ use Rattle.sal_macroblock.specs.Macroblocks.{outside}
 use Rattle.sal_modes.specs.Vectors.{bounds_of}
 use Rattle.sal_modes.specs.Around.{Around}
 use Rattle.sal_modes.specs.Modes.{mb_mode}
-use Rattle.sal_modes.specs.Rows.{Rows, first_row, with_mb, next_row}
+use Rattle.sal_modes.specs.Rows.{Rows, first_row, next_row}
 use Rattle.sal_modes.specs.Rows.{around as row_around}
-use Rattle.sal_modes.proofs.Raster.{HoldsUpTo, holds_none, holds_more, holds_down, holds_around, holds_place}
+use Rattle.sal_modes.proofs.Raster.{HoldsUpTo, holds_none, holds_down, holds_around, holds_place}
 use Rattle.sal_decode.specs.FirstPartition.{mode_at, around, mb_modes}
 
 -- around the macroblock at a row and column after those so far

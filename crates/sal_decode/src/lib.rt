@@ -1,11 +1,15 @@
-//! Decoding of a frame, so far as definitions and its parts: the modes of all macroblocks, and one macroblock read and built
-//! (RFC 6386, sections 9 and 19).
+//! Decoding of a frame: from a state and a frame's bytes to the next state, the picture and whether it is shown, or to the first
+//! fault of the bytes (RFC 6386, sections 9 to 19).
 #![tactic(auto)]
 
 mod after;
+mod finish;
+mod frame;
 mod head;
 mod macroblock;
 mod modes;
 mod picture;
 mod segment;
 mod tokens;
+
+pub use frame::decode;

@@ -1,4 +1,4 @@
-use Rattle.std.proofs.Common.{◌≡◌, ◌∙◌, rules, sym, ap, subst}
+use Rattle.std.proofs.Common.{◌∙◌, rules, sym, ap}
 use Rattle.sal_header.specs.declared.header.Kept.{Kept}
 use Rattle.sal_header.specs.Headers.{header_of}
 use Rattle.sal_bool.specs.Syntax.{run}

@@ -1,9 +1,8 @@
-use Rattle.std.proofs.Common.{◌≡◌, ◌∙◌, ◌*◌, [], sym, ap, subst, length, ◌<◌, All, arith}
+use Rattle.std.proofs.Common.{◌≡◌, ◌∙◌, ◌*◌, [], sym, ap, subst, All, arith}
 use Rattle.std.proofs.lemmas.List.Elements.{All-nil, All-push}
 use Rattle.sal_bool.specs.Syntax.{run}
 use Rattle.sal_modes.specs.Modes.{HasFittingModes}
-use Rattle.sal_modes.specs.Rows.{next_row}
-use Rattle.sal_modes.proofs.Raster.{HoldsUpTo, holds_more}
+use Rattle.sal_modes.proofs.Raster.{holds_more}
 use Rattle.sal_decode.specs.FirstPartition.{mb_modes}
 use Rattle.sal_decode.specs.Standing.{IsIntraKind}
 use Rattle.sal_decode.proofs.ModesRead.{Onward, one_more, all_read, none_read, at_first, after_row, whole_row}

@@ -1,4 +1,4 @@
-use Rattle.std.proofs.Common.{◌≡◌, ◌*◌, ◌/◌, ◌%◌, ◌≤◌, ◌∙◌, map, take, refl, sym, ap, arith, mod-lt}
+use Rattle.std.proofs.Common.{◌*◌, ◌/◌, ◌%◌, ◌≤◌, ◌∙◌, map, take, refl, sym, ap, arith, mod-lt}
 use Rattle.sal_base.specs.Pictures.{blocks_of}
 use Rattle.sal_header.specs.declared.header.Kept.{Kept}
 use Rattle.sal_frame.specs.Records.{macroblock, segment_steps, info_of}

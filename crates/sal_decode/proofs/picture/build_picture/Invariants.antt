@@ -1,5 +1,4 @@
-use Rattle.std.proofs.Common.{◌*◌, take}
-use Rattle.std.specs.Option.{option_copied}
+use Rattle.std.proofs.Common.{take}
 use Rattle.sal_frame.specs.Built.{blanks, references_or}
 use Rattle.sal_base.specs.Pictures.{blocks_of}
 use Rattle.sal_decode.specs.Syntax.{record_of}

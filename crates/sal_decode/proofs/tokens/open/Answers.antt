@@ -1,4 +1,4 @@
-use Rattle.std.proofs.Common.{arith, ◌≡◌, ◌∙◌, ◌≤◌, ◌+◌, length, length-append, ap}
+use Rattle.std.proofs.Common.{arith, ◌≡◌, ◌∙◌, ◌+◌, length-append, ap}
 use Rattle.sal_decode.proofs.TokensRead.{one_opened, all_opened}
 use Rattle.sal_decode.proofs.tokens.open.Goals as goal
 

@@ -1,4 +1,4 @@
-use Rattle.std.proofs.Common.{◌≡◌, ◌<◌, ◌≤◌, ℕ, List, [], length, take, slice_index_or, slice_range, ◌+◌}
+use Rattle.std.proofs.Common.{◌≡◌, ◌<◌, ◌≤◌, ℕ, [], length, slice_index_or}
 use Rattle.sal_bool.specs.Bits.{start}
 use Rattle.sal_bool.specs.Reading.{StandsFor, opened}
 use Rattle.sal_decode.specs.TokenPartitions.{part_bytes}

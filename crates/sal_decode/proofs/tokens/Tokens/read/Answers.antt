@@ -1,4 +1,4 @@
-use Rattle.std.proofs.Common.{◌∙◌, sym, ap, length}
+use Rattle.std.proofs.Common.{ap, length}
 use Rattle.sal_decode.proofs.TokensRead.{read_next}
 use Rattle.sal_decode.proofs.tokens.Tokens.read.Goals as goal
 

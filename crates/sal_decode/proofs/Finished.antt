@@ -1,0 +1,83 @@
+-- What a frame leads to, part by part.
+use Rattle.std.proofs.Common.{◌≡◌, ◌∙◌, ◌*◌, ℕ, List, [], Bool, Option, Result, Ok, Err, IfOk, MatchResult, is_ok, true≢false, map, refl, sym, ap, subst}
+use Rattle.sal_base.specs.declared.picture.Planes.{Planes}
+use Rattle.sal_base.specs.declared.picture.Picture.{Picture}
+use Rattle.sal_base.specs.declared.coding.Decoded.{Decoded}
+use Rattle.sal_base.specs.declared.coding.Fault.{Fault}
+use Rattle.sal_base.specs.declared.coding.Fault.TheVariants.{Short}
+use Rattle.sal_base.specs.declared.coding.DecodeFault.{DecodeFault}
+use Rattle.sal_base.specs.declared.coding.DecodeFault.TheVariants.{Bad, Memory}
+use Rattle.sal_base.specs.Pictures.{cropped}
+use Rattle.sal_bool.specs.Reading.{Reading}
+use Rattle.sal_bool.specs.Syntax.{run}
+use Rattle.sal_probs.specs.Probabilities.{Table}
+use Rattle.sal_header.specs.declared.header.Header.{Header}
+use Rattle.sal_macroblock.specs.declared.mode.MbMode.{MbMode}
+use Rattle.sal_filter.specs.declared.head.MbInfo.{MbInfo}
+use Rattle.sal_filter.specs.Filtered.{filtered}
+use Rattle.sal_state.specs.States.{References, StateData}
+use Rattle.sal_frame.specs.Records.{Record, filter_head, info_of}
+use Rattle.sal_frame.specs.Built.{built}
+use Rattle.sal_frame.specs.After.{planes_of, picture_of, state_after, decoded_of}
+use Rattle.sal_decode.specs.Decode.{decode_of}
+use Rattle.sal_decode.specs.FirstPartition.{mb_modes}
+use Rattle.sal_decode.specs.Syntax.{frame_of, record_of, ◌>>=◌}
+
+pub filtered_planes : (r : Option References) (f : Record) (h : Header) (infos : List MbInfo) (before after : Planes) → f.header ≡ h → before ≡ built r f → infos ≡ map info_of f.blocks
+    → after ≡ filtered (filter_head h) infos before → after ≡ planes_of r f
+unfolding planes_of
+filtered_planes r f h infos before after header was noted is =
+    is ∙ (ap (λ x. filtered (filter_head x) infos before) (sym header)
+    ∙ (ap (λ x. filtered (filter_head f.header) x before) noted
+    ∙ ap (λ x. filtered (filter_head f.header) (map info_of f.blocks) x) was))
+
+pub cut_picture : (s : StateData) (f : Record) (width height : ℕ) (planes : Planes) (picture : Picture) → f.width ≡ width → f.height ≡ height → planes ≡ planes_of s.references f → picture ≡ cropped width height planes → picture ≡ picture_of s f
+unfolding picture_of
+cut_picture s f width height planes picture wide high are is =
+    is ∙ (ap (λ n. cropped n height planes) (sym wide) ∙ (ap (λ n. cropped f.width n planes) (sym high) ∙ ap (λ p. cropped f.width f.height p) are))
+
+pub all_of_it : (s next : StateData) (f : Record) (picture : Picture) (shown : Bool) → next ≡ state_after s f → picture ≡ picture_of s f → shown ≡ f.header.shown
+    → record { state = next; picture = picture; shown = shown } ≡ decoded_of s f
+unfolding decoded_of
+all_of_it s next f picture shown a b c =
+    ap (λ x. let d : Decoded StateData = record { state = x; picture = picture; shown = shown } in d) a
+    ∙ (ap (λ x. let d : Decoded StateData = record { state = state_after s f; picture = x; shown = shown } in d) b
+    ∙ ap (λ x. let d : Decoded StateData = record { state = state_after s f; picture = picture_of s f; shown = x } in d) c)
+
+-- a frame's record has its header and size
+pub record_width : (s : StateData) (bytes : List ℕ) (size : ℕ × ℕ) (parts : List (ℕ × ℕ)) (x : Header × List MbMode) → (record_of s bytes size parts x).width ≡ size.0
+unfolding record_of
+record_width s bytes size parts x = refl
+
+pub record_height : (s : StateData) (bytes : List ℕ) (size : ℕ × ℕ) (parts : List (ℕ × ℕ)) (x : Header × List MbMode) → (record_of s bytes size parts x).height ≡ size.1
+unfolding record_of
+record_height s bytes size parts x = refl
+
+-- modes that were read over equal probabilities and sizes
+pub same_modes : (h : Header) (probs probs' : Table) (columns columns' rows rows' : ℕ) (d d' : Reading) (ms ms' : List MbMode) → probs' ≡ probs → columns' ≡ columns → rows' ≡ rows → ms' ≡ ms
+    → run (mb_modes h probs' columns' rows' (columns' * rows') []) d ≡ (ms, d') → run (mb_modes h probs columns rows (columns * rows) []) d ≡ (ms', d')
+same_modes h probs probs' columns columns' rows rows' d d' ms ms' e f g i read =
+    ap (λ t. run (mb_modes h t columns rows (columns * rows) []) d) (sym e)
+    ∙ (ap (λ n. run (mb_modes h probs' n rows (n * rows) []) d) (sym f)
+    ∙ (ap (λ n. run (mb_modes h probs' columns' n (columns' * n) []) d) (sym g)
+    ∙ (read ∙ ap (λ (xs : List MbMode). let x : List MbMode × Reading = (xs, d') in x) (sym i))))
+
+pub decoded_so : (s : StateData) (bytes : List ℕ) (f : Record) (d : Decoded StateData) → frame_of s bytes ≡ Ok f → d ≡ decoded_of s f → decode_of s bytes ≡ Ok d
+unfolding decode_of
+decoded_so s bytes f d e g = ap (λ x. x >>= λ y. Ok (decoded_of s y)) e ∙ ap (λ (x : Decoded StateData). let y : Result (Decoded StateData) Fault = Ok x in y) (sym g)
+
+-- the fault of an answer
+fault_in : Result (Decoded StateData) DecodeFault → Fault
+fault_in (Ok d) = Short
+fault_in (Err (Bad f)) = f
+fault_in (Err Memory) = Short
+
+pub same_fault : (s : StateData) (bytes : List ℕ) (f g : Fault) → frame_of s bytes ≡ Err f → ◌≡◌ {A = Result (Decoded StateData) DecodeFault} (Err (Bad f)) (Err (Bad g)) → decode_of s bytes ≡ Err g
+unfolding decode_of fault_in
+same_fault s bytes f g e same = ap (λ x. x >>= λ y. Ok (decoded_of s y)) e ∙ ap (λ (x : Fault). let y : Result (Decoded StateData) Fault = Err x in y) (ap fault_in same)
+
+-- what goes on as it is where it is Ok
+pub ok_through : {A X Y : Type 0} (r : Result A X) (r' : Result A Y) (P : A → Type 0) (Q : X → Type 0) → MatchResult r (λ x. r' ≡ Ok x) Q → is_ok r' ≡ is_ok r → IfOk r P → IfOk r' P
+ok_through (Ok x) r' P Q is same h = subst (λ y. IfOk y P) (sym is) h
+ok_through (Err e) (Ok x) P Q is same h = absurd (true≢false same)
+ok_through (Err e) (Err f) P Q is same h = tt
