@@ -358,11 +358,14 @@ def measured(harness, ours, standard):
     yield "vpxdec", lambda count: ["vpxdec", "--codec=vp8", "--noblit", "--threads=1", f"--limit={count}", standard]
 
 
-def measure(harness, folder, other):
+CLIPS = ["testsrc2", "mandelbrot", "generated"]
+
+
+def measure(harness, folder, other, clips):
     """A table on standard output: each number is of one more picture, the start left out."""
     width, height = 1280, 720
     print("| clip | frames | decoder | ms/picture | million instructions/picture | per luma sample |\n|---|---|---|---|---|---|")
-    for name in ("testsrc2", "mandelbrot", "generated"):
+    for name in clips:
         clip = folder / f"{name}.y4m"
         if name == "generated":
             run([*other, "clip", 1, 24, width, height, clip])
@@ -415,6 +418,7 @@ def main():
     arguments.add_argument("--jobs", type=int, default=2, help="how many mutations are tried at once")
     arguments.add_argument("--library", type=Path, default=LIBRARY, help="another static library with the same function")
     arguments.add_argument("--measure", action="store_true", help="milliseconds and instructions, and no comparison")
+    arguments.add_argument("--clip", choices=CLIPS, action="append", help="these clips alone, for --measure")
     arguments.add_argument("--only", choices=["peer", "keys", "real", "mutations"], action="append", help="these comparisons alone")
     arguments.add_argument("--build", action="store_true", help="prove and build the static library first")
     options = arguments.parse_args()
@@ -434,7 +438,7 @@ def main():
             if not real or shutil.which("valgrind") is None:
                 say("skipped, vpxenc, vpxdec, ffmpeg or valgrind isn't here")
             else:
-                measure(harness, folder, other)
+                measure(harness, folder, other, options.clip or CLIPS)
             return 0
         return comparisons(harness, folder, other, real, options)
     finally:
