@@ -1,13 +1,11 @@
 #!/usr/bin/env python3
 """Compares the built program's `loop` with an independent program, byte for byte: status and OUT, on random clips and scripts.
 
-The other program is the command that SALSIFY_PEER names, or the Rust sources in ../shared/oracle beside this repository, which are built in
-a folder of their own. Where there is neither, one line says so and nothing is compared. Our program is the proved build that stands.
+The other program is the one of peer.py. Where there is none, one line says so and nothing is compared. Our program is the proved build that
+stands.
 It ends with status 1 where the two differ, and keeps the inputs of the first difference."""
 import argparse
-import os
 import random
-import shlex
 import shutil
 import subprocess
 import sys
@@ -15,24 +13,11 @@ import tempfile
 from collections import Counter
 from pathlib import Path
 
-ROOT = Path(__file__).resolve().parent.parent
-PROGRAM = ROOT / "crates" / "salsify" / "out" / "salsify"
-SOURCES = ROOT.parent / "shared" / "oracle"
+import peer
+
+PROGRAM = peer.ROOT / "crates" / "salsify" / "out" / "salsify"
 # The largest pictures of the narrow form, and some just beyond it.
 EDGES = [(597, 1), (1, 597), (598, 1), (1, 598), (28, 28), (28, 29), (34, 23), (265, 3), (1280, 1), (1, 720), (1, 721), (1281, 1)]
-
-
-def peer(folder):
-    """The other program's words before IN, SCRIPT and OUT, or None."""
-    if "SALSIFY_PEER" in os.environ:
-        return shlex.split(os.environ["SALSIFY_PEER"])
-    if not (SOURCES / "Cargo.toml").exists() or shutil.which("cargo") is None:
-        return None
-    target = folder / "target"
-    build = ["cargo", "build", "--release", "--offline", "--quiet", "--manifest-path", str(SOURCES / "Cargo.toml"), "--target-dir", str(target)]
-    subprocess.run(build, check=True)
-    programs = [p for p in (target / "release").iterdir() if p.is_file() and os.access(p, os.X_OK)]
-    return [str(programs[0]), "loop-first"]
 
 
 def samples(width, height):
@@ -121,7 +106,7 @@ def main():
     arguments.add_argument("--seed", type=int, default=1)
     options = arguments.parse_args()
     folder = Path(tempfile.mkdtemp(prefix="compare-"))
-    other = peer(folder)
+    other = peer.program()
     if other is None:
         print("compare_first: skipped, no independent program is at hand")
         return 0
@@ -138,7 +123,7 @@ def main():
         (folder / "in.y4m").write_bytes(clip_text)
         (folder / "script").write_bytes(script_text)
         ours = outcome([str(PROGRAM), "loop"], folder, "ours.y4m")
-        theirs = outcome(other, folder, "theirs.y4m")
+        theirs = outcome([*other, "loop-first"], folder, "theirs.y4m")
         compared += 1
         statuses[ours[0]] += 1
         written += len(ours[1] or b"")
