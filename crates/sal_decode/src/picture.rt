@@ -24,11 +24,11 @@ use sal_probs::Probs;
 use sal_state::State;
 use std::alloc::Global;
 
-// How many macroblocks a side takes.
+/// How many macroblocks a side takes.
 pub(crate) fn blocks_of(side: u16) -> usize
     ensures { result ≡ blocks_of side }
 {
-    (side as usize + 15) / 16
+    side.div_ceil(16) as usize
 }
 
 // A plane of zeros.

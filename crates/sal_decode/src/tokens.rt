@@ -32,7 +32,7 @@ fn open<'a>(alloc: Global, bytes: &'a [u8], parts: &Parts) -> Result<Vec<Decoder
     ensures count { IfOk result (λ ds. length ds.items ≡ parts.now.count) }
 {
     let mut decoders = Vec::new(alloc);
-    decoders.reserve(8)?;
+    decoders.reserve(parts.count as usize)?;
     for k in 0..parts.count as usize {
         let (place, size) = parts.at[k];
         decoders.push(Decoder::new(&bytes[place..place + size]))?;
