@@ -14,13 +14,13 @@ It ends with status 1 where a picture, a state or a fault differs; a line names 
 import argparse
 import os
 import random
-import re
 import shutil
 import struct
 import subprocess
 import sys
 import tempfile
 import time
+from collections import Counter
 from pathlib import Path
 
 import peer
@@ -331,14 +331,25 @@ def mutate(harness, folder, other, streams, options):
 # ---- Measurements
 
 
-def collected(words, limit=900):
-    """Instructions of a run."""
-    counting = ["valgrind", "--tool=callgrind", "--callgrind-out-file=/dev/null"]
-    done = subprocess.run([*counting, *map(str, words)], stdin=subprocess.DEVNULL, capture_output=True, timeout=limit)
-    found = re.search(rb"Collected : (\d+)", done.stderr)
-    if done.returncode != 0 or not found:
-        raise RuntimeError(done.stderr[-400:].decode("utf-8", "replace"))
-    return int(found[1])
+def own_costs(words, out, limit=900):
+    """Instructions of a run, by the function that they stand in."""
+    counting = ["valgrind", "--tool=callgrind", f"--callgrind-out-file={out}"]
+    run([*counting, *words], limit=limit)
+    costs, names, function, called = Counter(), {}, None, False
+    for line in out.read_text(errors="replace").splitlines():
+        if line.startswith(("fn=", "cfn=")):
+            # A name stands beside its number once, where that comes first.
+            number, _, name = line.partition("=")[2].partition(" ")
+            names.setdefault(number, name)
+            function = names[number] if line[0] == "f" else function
+        elif line.startswith("calls="):
+            # The next line has the cost of what is called.
+            called = True
+        elif line and line[0] in "0123456789+-*":
+            if not called:
+                costs[function] += int(line.split()[1])
+            called = False
+    return costs
 
 
 def user_seconds(words):
@@ -359,18 +370,24 @@ def measured(harness, ours, standard):
 
 
 CLIPS = ["testsrc2", "mandelbrot", "generated"]
+WIDTH, HEIGHT = 1280, 720
+SAMPLES = WIDTH * HEIGHT
+
+
+def row(name, kind, decoder, milliseconds, instructions):
+    print(f"| {name} | {kind} | {decoder} | {milliseconds} | {instructions / 1e6:.2f} | {instructions / SAMPLES:.1f} |", flush=True)
 
 
 def measure(harness, folder, other, clips):
-    """A table on standard output: each number is of one more picture, the start left out."""
-    width, height = 1280, 720
+    """A table on standard output: each number is of one more picture, the start left out. Then where ours has its instructions."""
+    functions = {}
     print("| clip | frames | decoder | ms/picture | million instructions/picture | per luma sample |\n|---|---|---|---|---|---|")
     for name in clips:
         clip = folder / f"{name}.y4m"
         if name == "generated":
-            run([*other, "clip", 1, 24, width, height, clip])
+            run([*other, "clip", 1, 24, WIDTH, HEIGHT, clip])
         else:
-            run([*FFMPEG, "-f", "lavfi", "-i", f"{name}=size={width}x{height}:rate=30", "-frames:v", 24, "-pix_fmt", "yuv420p", "-y", clip])
+            run([*FFMPEG, "-f", "lavfi", "-i", f"{name}=size={WIDTH}x{HEIGHT}:rate=30", "-frames:v", 24, "-pix_fmt", "yuv420p", "-y", clip])
         for kind, distance in (("key", 0), ("inter", 9999)):
             standard, ours = folder / f"{name}-{kind}-standard.ivf", folder / f"{name}-{kind}.ivf"
             run([*VPXENC, "--rt", "--cpu-used=-8", "--lag-in-frames=0", "--auto-alt-ref=0", "--end-usage=q", "--cq-level=32", "--min-q=32", "--max-q=32",
@@ -378,9 +395,17 @@ def measure(harness, folder, other, clips):
             run([*other, "profile-ivf", standard, ours], limit=600)
             for decoder, words in measured(harness, ours, standard):
                 few, many, most = 2, 4, 24
-                each = (collected(words(many)) - collected(words(few))) / (many - few)
+                each = own_costs(words(many), folder / "callgrind")
+                each.subtract(own_costs(words(few), folder / "callgrind"))
                 seconds = (min(user_seconds(words(most)) for _ in range(3)) - min(user_seconds(words(few)) for _ in range(3))) / (most - few)
-                print(f"| {name} | {kind} | {decoder} | {1000 * seconds:.2f} | {each / 1e6:.2f} | {each / width / height:.1f} |", flush=True)
+                row(name, kind, decoder, f"{1000 * seconds:.2f}", sum(each.values()) / (many - few))
+                if decoder == "ours":
+                    hashing = sum(cost for function, cost in each.items() if "sha2::" in function)
+                    row(name, kind, "ours, hashing apart", "", (sum(each.values()) - hashing) / (many - few))
+                    functions[name, kind] = [(function, cost / (many - few) / SAMPLES) for function, cost in each.most_common(11)]
+    print("\nInstructions per luma sample of ours, by function:\n")
+    for (name, kind), costs in functions.items():
+        print(f"- {name}, {kind}: " + ", ".join(f"{function} {cost:.1f}" for function, cost in costs))
 
 
 def build_library():
