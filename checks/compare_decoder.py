@@ -213,7 +213,13 @@ OPTIONS = [
     ("tuned", 96, 80, 8, [*GOOD, "--tune=ssim"]),
     ("fastest", 176, 144, 12, ["--rt", "--cpu-used=16", "--lag-in-frames=0", "--token-parts=1"]),
     ("slowest", 80, 64, 8, ["--best", "--passes=2", "--lag-in-frames=0"]),
+    ("largest", 1280, 720, 4, [*FAST, "--token-parts=3"]),
 ]
+
+
+def make_source(clip, source, width, height, count):
+    """A clip of one of ffmpeg's sources."""
+    run([*FFMPEG, "-f", "lavfi", "-i", f"{source}=size={width}x{height}:rate=30", "-frames:v", count, "-pix_fmt", "yuv420p", "-y", clip])
 
 
 def real_streams(folder, other, options):
@@ -221,8 +227,9 @@ def real_streams(folder, other, options):
     for number, (name, width, height, count, words) in enumerate(options):
         chance = random.Random(4000 + number)
         clip, ivf, ours = folder / f"{name}.y4m", folder / f"{name}-standard.ivf", folder / f"{name}.ivf"
-        kind = number % 3
-        if kind == 0:
+        if width * height > 100_000:
+            make_source(clip, "mandelbrot", width, height, count)
+        elif number % 3 == 0:
             write_clip(clip, width, height, cutting(chance, width, height, count, chance.choice([0, 10])))
         else:
             write_clip(clip, width, height, moving(chance, width, height, count, chance.choice([0, 10, 30]), chance.choice([1, 3, 7])))
@@ -387,7 +394,7 @@ def measure(harness, folder, other, clips):
         if name == "generated":
             run([*other, "clip", 1, 24, WIDTH, HEIGHT, clip])
         else:
-            run([*FFMPEG, "-f", "lavfi", "-i", f"{name}=size={WIDTH}x{HEIGHT}:rate=30", "-frames:v", 24, "-pix_fmt", "yuv420p", "-y", clip])
+            make_source(clip, name, WIDTH, HEIGHT, 24)
         for kind, distance in (("key", 0), ("inter", 9999)):
             standard, ours = folder / f"{name}-{kind}-standard.ivf", folder / f"{name}-{kind}.ivf"
             run([*VPXENC, "--rt", "--cpu-used=-8", "--lag-in-frames=0", "--auto-alt-ref=0", "--end-usage=q", "--cq-level=32", "--min-q=32", "--max-q=32",
