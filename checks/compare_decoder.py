@@ -3,7 +3,7 @@
 
 The decoder is called through the static library of crate sal_decode_ffi, by the harness in checks/decoder. It is compared
 
-- with the program of peer.py, on the streams that it makes of 20 clips, inter frames and key frames alone;
+- with the program of peer.py, on the streams that it makes of 20 clips, inter frames and key frames alone, and on those that lie beside it;
 - with vpxdec and ffmpeg's own decoder, on streams of vpxenc. One digit of our profile isn't the standard's, so these streams are
   rewritten for ours by the other program (`profile-ivf`), and their pictures are those of the streams before that;
 - with the other program, on such streams with flipped bits, cuts, frames of random bits, and lost or repeated frames.
@@ -170,6 +170,14 @@ def key_streams(folder, other, clips):
         yield Stream(ivf.stem, ivf, digests(other, ivf), peer=Path(f"{ivf}.recon.y4m"))
 
 
+def vector_streams(folder, other):
+    """Streams that lie beside the other program's sources: sign biases, copies, segments of all kinds, hidden frames."""
+    for ivf in sorted((peer.SOURCES / "vectors" / "streams").glob("*.ivf")):
+        out = folder / f"{ivf.stem}.y4m"
+        run([*other, "decode-ivf", ivf, out])
+        yield Stream(ivf.stem, ivf, ivf.with_suffix(".digests"), peer=out)
+
+
 GOOD = ["--good", "--cpu-used=1"]
 FAST = ["--rt", "--cpu-used=-6", "--lag-in-frames=0"]
 LAG = ["--passes=2", "--auto-alt-ref=1"]
@@ -307,6 +315,9 @@ def mutation_streams(folder, other, real):
         write_clip(clip, width, height, moving(chance, width, height, 5, 20, 4))
         run([*other, "encode-ivf", clip, ivf, q, "--codec", codec])
         yield ivf
+    for stream in vector_streams(folder, other):
+        if not stream.name.startswith("real"):
+            yield cut_stream(stream.ivf, folder / stream.ivf.name, 6)
     if real:
         chosen = ["parts-2", "parts-8", "alternative", "resilient-3", "sharpness-5", "noise-4", "rate-low", "keys-2", "finest", "odd-95-7", "screen-2"]
         changed = [(f"short-{name}", width // 2, height // 2, min(count, 22), words) for name, width, height, count, words in OPTIONS if name in chosen]
@@ -483,6 +494,8 @@ def comparisons(harness, folder, other, real, options):
     clips = make_clips(folder, other) if "peer" in wanted or "keys" in wanted else []
     parts = [("peer", "streams of the other program", lambda: peer_streams(folder, other, clips)),
              ("keys", "streams of key frames", lambda: key_streams(folder, other, clips))]
+    if (peer.SOURCES / "vectors" / "streams").is_dir():
+        parts.append(("peer", "streams beside the other program", lambda: vector_streams(folder, other)))
     if real:
         parts.append(("real", "streams of vpxenc", lambda: real_streams(folder, other, OPTIONS)))
     elif "real" in wanted:
