@@ -13,3 +13,6 @@ mod segment;
 mod tokens;
 
 pub use frame::decode;
+
+#[cfg(test)]
+mod tests;
