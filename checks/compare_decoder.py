@@ -244,14 +244,14 @@ def real_streams(folder, other, options):
         run([*VPXENC, *words, "-o", ivf, clip])
         run([*other, "profile-ivf", ivf, ours])
         pictures = {}
-        for decoder, command in decoders(ivf, folder):
+        for decoder, command in decoders(ivf):
             out = folder / f"{name}.{decoder}"
             run([*command, out])
             pictures[decoder] = out
         yield Stream(name, ours, digests(other, ours), **pictures)
 
 
-def decoders(ivf, folder):
+def decoders(ivf):
     """Who else decodes the standard's streams, without the name of the file that they write."""
     yield "vpxdec", ["vpxdec", "--codec=vp8", "--threads=1", "--rawvideo", "--i420", ivf, "-o"]
     yield "ffmpeg", [*FFMPEG, "-c:v", "vp8", "-i", ivf, "-f", "rawvideo", "-pix_fmt", "yuv420p", "-fps_mode", "passthrough", "-y"]
@@ -261,7 +261,7 @@ def decoders(ivf, folder):
 
 
 def compare(harness, streams):
-    """How many streams, frames and comparisons there were, and how many differ; where files are written they are dropped again."""
+    """How many comparisons there were, of how many frames, and how many differ."""
     count = differences = frames = 0
     for stream in streams:
         for decoder, pictures in stream.pictures.items():
