@@ -3,7 +3,7 @@
 
 The decoder is called through the static library of crate sal_decode_ffi, by the harness in checks/decoder. It is compared
 
-- with the program of peer.py, on the streams that it makes of 20 clips, inter frames and key frames alone;
+- with the program of peer.py, on the streams that it makes of 20 clips, inter frames and key frames alone, and on those that lie beside it;
 - with vpxdec and ffmpeg's own decoder, on streams of vpxenc. One digit of our profile isn't the standard's, so these streams are
   rewritten for ours by the other program (`profile-ivf`), and their pictures are those of the streams before that;
 - with the other program, on such streams with flipped bits, cuts, frames of random bits, and lost or repeated frames.
@@ -14,13 +14,13 @@ It ends with status 1 where a picture, a state or a fault differs; a line names 
 import argparse
 import os
 import random
-import re
 import shutil
 import struct
 import subprocess
 import sys
 import tempfile
 import time
+from collections import Counter
 from pathlib import Path
 
 import peer
@@ -170,6 +170,14 @@ def key_streams(folder, other, clips):
         yield Stream(ivf.stem, ivf, digests(other, ivf), peer=Path(f"{ivf}.recon.y4m"))
 
 
+def vector_streams(folder, other):
+    """Streams that lie beside the other program's sources: sign biases, copies, segments of all kinds, hidden frames."""
+    for ivf in sorted((peer.SOURCES / "vectors" / "streams").glob("*.ivf")):
+        out = folder / f"{ivf.stem}.y4m"
+        run([*other, "decode-ivf", ivf, out])
+        yield Stream(ivf.stem, ivf, ivf.with_suffix(".digests"), peer=out)
+
+
 GOOD = ["--good", "--cpu-used=1"]
 FAST = ["--rt", "--cpu-used=-6", "--lag-in-frames=0"]
 LAG = ["--passes=2", "--auto-alt-ref=1"]
@@ -213,7 +221,13 @@ OPTIONS = [
     ("tuned", 96, 80, 8, [*GOOD, "--tune=ssim"]),
     ("fastest", 176, 144, 12, ["--rt", "--cpu-used=16", "--lag-in-frames=0", "--token-parts=1"]),
     ("slowest", 80, 64, 8, ["--best", "--passes=2", "--lag-in-frames=0"]),
+    ("largest", 1280, 720, 4, [*FAST, "--token-parts=3"]),
 ]
+
+
+def make_source(clip, source, width, height, count):
+    """A clip of one of ffmpeg's sources."""
+    run([*FFMPEG, "-f", "lavfi", "-i", f"{source}=size={width}x{height}:rate=30", "-frames:v", count, "-pix_fmt", "yuv420p", "-y", clip])
 
 
 def real_streams(folder, other, options):
@@ -221,22 +235,23 @@ def real_streams(folder, other, options):
     for number, (name, width, height, count, words) in enumerate(options):
         chance = random.Random(4000 + number)
         clip, ivf, ours = folder / f"{name}.y4m", folder / f"{name}-standard.ivf", folder / f"{name}.ivf"
-        kind = number % 3
-        if kind == 0:
+        if width * height > 100_000:
+            make_source(clip, "mandelbrot", width, height, count)
+        elif number % 3 == 0:
             write_clip(clip, width, height, cutting(chance, width, height, count, chance.choice([0, 10])))
         else:
             write_clip(clip, width, height, moving(chance, width, height, count, chance.choice([0, 10, 30]), chance.choice([1, 3, 7])))
         run([*VPXENC, *words, "-o", ivf, clip])
         run([*other, "profile-ivf", ivf, ours])
         pictures = {}
-        for decoder, command in decoders(ivf, folder):
+        for decoder, command in decoders(ivf):
             out = folder / f"{name}.{decoder}"
             run([*command, out])
             pictures[decoder] = out
         yield Stream(name, ours, digests(other, ours), **pictures)
 
 
-def decoders(ivf, folder):
+def decoders(ivf):
     """Who else decodes the standard's streams, without the name of the file that they write."""
     yield "vpxdec", ["vpxdec", "--codec=vp8", "--threads=1", "--rawvideo", "--i420", ivf, "-o"]
     yield "ffmpeg", [*FFMPEG, "-c:v", "vp8", "-i", ivf, "-f", "rawvideo", "-pix_fmt", "yuv420p", "-fps_mode", "passthrough", "-y"]
@@ -246,7 +261,7 @@ def decoders(ivf, folder):
 
 
 def compare(harness, streams):
-    """How many streams, frames and comparisons there were, and how many differ; where files are written they are dropped again."""
+    """How many comparisons there were, of how many frames, and how many differ."""
     count = differences = frames = 0
     for stream in streams:
         for decoder, pictures in stream.pictures.items():
@@ -300,6 +315,9 @@ def mutation_streams(folder, other, real):
         write_clip(clip, width, height, moving(chance, width, height, 5, 20, 4))
         run([*other, "encode-ivf", clip, ivf, q, "--codec", codec])
         yield ivf
+    for stream in vector_streams(folder, other):
+        if not stream.name.startswith("real"):
+            yield cut_stream(stream.ivf, folder / stream.ivf.name, 6)
     if real:
         chosen = ["parts-2", "parts-8", "alternative", "resilient-3", "sharpness-5", "noise-4", "rate-low", "keys-2", "finest", "odd-95-7", "screen-2"]
         changed = [(f"short-{name}", width // 2, height // 2, min(count, 22), words) for name, width, height, count, words in OPTIONS if name in chosen]
@@ -331,14 +349,25 @@ def mutate(harness, folder, other, streams, options):
 # ---- Measurements
 
 
-def collected(words, limit=900):
-    """Instructions of a run."""
-    counting = ["valgrind", "--tool=callgrind", "--callgrind-out-file=/dev/null"]
-    done = subprocess.run([*counting, *map(str, words)], stdin=subprocess.DEVNULL, capture_output=True, timeout=limit)
-    found = re.search(rb"Collected : (\d+)", done.stderr)
-    if done.returncode != 0 or not found:
-        raise RuntimeError(done.stderr[-400:].decode("utf-8", "replace"))
-    return int(found[1])
+def own_costs(words, out, limit=900):
+    """Instructions of a run, by the function that they stand in."""
+    counting = ["valgrind", "--tool=callgrind", f"--callgrind-out-file={out}"]
+    run([*counting, *words], limit=limit)
+    costs, names, function, called = Counter(), {}, None, False
+    for line in out.read_text(errors="replace").splitlines():
+        if line.startswith(("fn=", "cfn=")):
+            # A name stands beside its number once, where that comes first.
+            number, _, name = line.partition("=")[2].partition(" ")
+            names.setdefault(number, name)
+            function = names[number] if line[0] == "f" else function
+        elif line.startswith("calls="):
+            # The next line has the cost of what is called.
+            called = True
+        elif line and line[0] in "0123456789+-*":
+            if not called:
+                costs[function] += int(line.split()[1])
+            called = False
+    return costs
 
 
 def user_seconds(words):
@@ -359,18 +388,24 @@ def measured(harness, ours, standard):
 
 
 CLIPS = ["testsrc2", "mandelbrot", "generated"]
+WIDTH, HEIGHT = 1280, 720
+SAMPLES = WIDTH * HEIGHT
+
+
+def row(name, kind, decoder, milliseconds, instructions):
+    print(f"| {name} | {kind} | {decoder} | {milliseconds} | {instructions / 1e6:.2f} | {instructions / SAMPLES:.1f} |", flush=True)
 
 
 def measure(harness, folder, other, clips):
-    """A table on standard output: each number is of one more picture, the start left out."""
-    width, height = 1280, 720
+    """A table on standard output: each number is of one more picture, the start left out. Then where ours has its instructions."""
+    functions = {}
     print("| clip | frames | decoder | ms/picture | million instructions/picture | per luma sample |\n|---|---|---|---|---|---|")
     for name in clips:
         clip = folder / f"{name}.y4m"
         if name == "generated":
-            run([*other, "clip", 1, 24, width, height, clip])
+            run([*other, "clip", 1, 24, WIDTH, HEIGHT, clip])
         else:
-            run([*FFMPEG, "-f", "lavfi", "-i", f"{name}=size={width}x{height}:rate=30", "-frames:v", 24, "-pix_fmt", "yuv420p", "-y", clip])
+            make_source(clip, name, WIDTH, HEIGHT, 24)
         for kind, distance in (("key", 0), ("inter", 9999)):
             standard, ours = folder / f"{name}-{kind}-standard.ivf", folder / f"{name}-{kind}.ivf"
             run([*VPXENC, "--rt", "--cpu-used=-8", "--lag-in-frames=0", "--auto-alt-ref=0", "--end-usage=q", "--cq-level=32", "--min-q=32", "--max-q=32",
@@ -378,9 +413,17 @@ def measure(harness, folder, other, clips):
             run([*other, "profile-ivf", standard, ours], limit=600)
             for decoder, words in measured(harness, ours, standard):
                 few, many, most = 2, 4, 24
-                each = (collected(words(many)) - collected(words(few))) / (many - few)
+                each = own_costs(words(many), folder / "callgrind")
+                each.subtract(own_costs(words(few), folder / "callgrind"))
                 seconds = (min(user_seconds(words(most)) for _ in range(3)) - min(user_seconds(words(few)) for _ in range(3))) / (most - few)
-                print(f"| {name} | {kind} | {decoder} | {1000 * seconds:.2f} | {each / 1e6:.2f} | {each / width / height:.1f} |", flush=True)
+                row(name, kind, decoder, f"{1000 * seconds:.2f}", sum(each.values()) / (many - few))
+                if decoder == "ours":
+                    hashing = sum(cost for function, cost in each.items() if "sha2::" in function)
+                    row(name, kind, "ours, hashing apart", "", (sum(each.values()) - hashing) / (many - few))
+                    functions[name, kind] = [(function, cost / (many - few) / SAMPLES) for function, cost in each.most_common(11)]
+    print("\nInstructions per luma sample of ours, by function:\n")
+    for (name, kind), costs in functions.items():
+        print(f"- {name}, {kind}: " + ", ".join(f"{function} {cost:.1f}" for function, cost in costs))
 
 
 def build_library():
@@ -451,6 +494,8 @@ def comparisons(harness, folder, other, real, options):
     clips = make_clips(folder, other) if "peer" in wanted or "keys" in wanted else []
     parts = [("peer", "streams of the other program", lambda: peer_streams(folder, other, clips)),
              ("keys", "streams of key frames", lambda: key_streams(folder, other, clips))]
+    if (peer.SOURCES / "vectors" / "streams").is_dir():
+        parts.append(("peer", "streams beside the other program", lambda: vector_streams(folder, other)))
     if real:
         parts.append(("real", "streams of vpxenc", lambda: real_streams(folder, other, OPTIONS)))
     elif "real" in wanted:
