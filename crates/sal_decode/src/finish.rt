@@ -8,7 +8,7 @@ ghost use Rattle.sal_filter.specs.Filtered.{filtered};
 ghost use Rattle.sal_state.specs.States.{HasBlocks};
 ghost use Rattle.sal_frame.specs.Records.{Record, filter_head, info_of};
 ghost use Rattle.sal_frame.specs.Built.{built};
-ghost use Rattle.sal_frame.specs.After.{decoded_of, planes_of};
+ghost use Rattle.sal_frame.specs.After.{decoded_of};
 
 use crate::after::map_after;
 use sal_base::{Decoded, Memory, Planes};

@@ -1,6 +1,6 @@
 //! One macroblock: its levels, and its samples built onto those before it (RFC 6386, sections 13, 14 and 19.3).
 
-ghost use Rattle.std.specs.Prelude.{◌≡◌, ◌<◌, ℕ, List, IfSome, None, true, false};
+ghost use Rattle.std.specs.Prelude.{◌≡◌, ℕ, List, IfSome, None, true, false};
 ghost use Rattle.std.specs.Option.{option_copied};
 ghost use Rattle.sal_base.specs.declared.picture.Planes.{Planes as PlanesData};
 ghost use Rattle.sal_bool.specs.Bits.{Interval};

@@ -1,6 +1,6 @@
 //! The unfiltered planes of a frame, macroblock by macroblock in raster order (RFC 6386, sections 13 and 14).
 
-ghost use Rattle.std.specs.Prelude.{◌≡◌, ◌≤◌, ◌+◌, ◌*◌, All, IfOk, IfSome, None, false, true, length, map, take};
+ghost use Rattle.std.specs.Prelude.{◌≡◌, ◌≤◌, ◌*◌, All, IfOk, None, true, length, map, take};
 ghost use Rattle.sal_base.specs.Picture.{AreSides};
 ghost use Rattle.sal_base.specs.Pictures.{blank, blocks_of};
 ghost use Rattle.sal_probs.specs.Probabilities.{used};

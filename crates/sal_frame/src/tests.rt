@@ -1,20 +1,24 @@
-//! Single macroblocks, whose samples are by hand from the rules of RFC 6386, and what is read out of a header.
+//! Single macroblocks, whose samples are by hand from the rules of RFC 6386, what is read out of a header, and the states and
+//! pictures after a frame, which ample memory gives.
 
-ghost use Rattle.std.specs.Prelude.{◌≡◌, ◌<◌, ◌≤◌, false, IfOk, All};
+ghost use Rattle.std.specs.Prelude.{◌≡◌, ◌<◌, ◌≤◌, false, IfOk, All, Some};
+ghost use Rattle.std.specs.Arc.{arc_value};
 ghost use Rattle.sal_base.specs.Picture.{IsPlane};
 ghost use Rattle.sal_macroblock.specs.Blocks.{no_levels};
 ghost use Rattle.sal_macroblock.specs.Sizes.{Within};
-ghost use Rattle.sal_state.specs.States.{HasBlocks};
+ghost use Rattle.sal_state.specs.States.{HasBlocks, References as ReferencesData};
 ghost use Rattle.sal_frame.specs.Inter.{IsInter};
 ghost use Rattle.sal_frame.specs.Intra.{IsIntra};
 
-use crate::{build_inter, build_intra, filter_head, info_of, segment_steps};
+use crate::{build_inter, build_intra, crop, filter_head, info_of, next_state, segment_steps};
 use sal_base::{Bytes, Memory, Plane, Planes, SubMode, Vector, YMode};
 use sal_filter::FilterHead;
-use sal_header::Header;
+use sal_header::{Header, Kept};
 use sal_macroblock::{Block, Levels, MbMode, RefKind};
-use sal_probs::Updates;
+use sal_probs::{Probs, Updates};
+use sal_state::{Reference, References, State};
 use std::alloc::Global;
+use std::sync::Arc;
 use std::test::Fail;
 
 /// A square whose sample at a row and column is eight times the row and the column.
@@ -246,5 +250,109 @@ fn inter_macroblocks(rt: HostRuntime) -> Result<(), Fail> {
         [Some(0), Some(100), Some(135)]
     );
     assert_eq!(rt; at(&planes.v, [0, 36, 63]), [Some(8), Some(36), Some(63)]);
+    Ok(())
+}
+
+fn flat(alloc: Global, side: u16, value: u8) -> Result<Plane, Memory>
+    ensures { IfOk result (IsPlane side side) }
+{
+    let samples = Bytes::repeat(alloc, value, side as usize * side as usize)?;
+    Ok(Plane {
+        width: side,
+        height: side,
+        samples,
+    })
+}
+
+/// A reference of one macroblock whose samples are all the same.
+fn reference(alloc: Global, value: u8) -> Result<Arc<Reference>, Memory>
+    ensures { IfOk result (λ r. HasBlocks 1 1 (arc_value r)) }
+{
+    let planes = Planes {
+        y: flat(alloc, 16, value)?,
+        u: flat(alloc, 8, value)?,
+        v: flat(alloc, 8, value)?,
+    };
+    Reference::new(alloc, planes)
+}
+
+/// A state of pictures of 16 by 9 samples.
+fn state(alloc: Global) -> Result<State, Memory>
+    ensures { IfOk result (λ s. (r : ReferencesData) × (s.references ≡ Some r) × (r.width ≡ 16) × (r.height ≡ 9)) }
+{
+    let kept = Kept {
+        absolute: false,
+        quantisers: [0; 4],
+        levels: [0; 4],
+        ref_deltas: [0; 4],
+        mode_deltas: [0; 4],
+        bias_golden: false,
+        bias_alt: false,
+        map: Bytes::repeat(alloc, 0, 1)?,
+        probs: Probs::initial(alloc)?,
+    };
+    let references = References {
+        width: 16,
+        height: 9,
+        last: reference(alloc, 10)?,
+        golden: reference(alloc, 20)?,
+        alt: reference(alloc, 30)?,
+    };
+    Ok(State::new(kept, references))
+}
+
+/// The state after a frame of one macroblock.
+fn after(alloc: Global, header: &Header) -> Result<State, Memory> {
+    let old = state(alloc)?;
+    let planes = planes(alloc)?;
+    let map = Bytes::repeat(alloc, 0, 1)?;
+    let probs = Probs::initial(alloc)?;
+    next_state(alloc, &old, header, 16, 9, planes, map, probs)
+}
+
+fn first(reference: &Reference) -> Option<u8> {
+    reference.planes().y.samples.as_slice().first().copied()
+}
+
+/// The first luma samples of last, golden and alt after a frame, or none for want of memory.
+fn firsts_after(alloc: Global, header: &Header) -> Option<[Option<u8>; 3]> {
+    let next = after(alloc, header).ok()?;
+    let references = next.references()?;
+    Some([
+        first(&references.last),
+        first(&references.golden),
+        first(&references.alt),
+    ])
+}
+
+#[test]
+fn references_after_frames(rt: HostRuntime) {
+    let mut frame = header(false, false);
+    frame.copy_golden = 1;
+    assert_eq!(rt;
+        firsts_after(rt.alloc(), &frame),
+        Some([Some(10), Some(10), Some(30)])
+    );
+    frame.refresh_golden = true;
+    frame.copy_alt = 2;
+    assert_eq!(rt;
+        firsts_after(rt.alloc(), &frame),
+        Some([Some(10), Some(0), Some(20)])
+    );
+    frame.key = true;
+    assert_eq!(rt;
+        firsts_after(rt.alloc(), &frame),
+        Some([Some(0), Some(0), Some(0)])
+    );
+}
+
+#[test]
+fn pictures_are_cut_to_their_size(rt: HostRuntime) -> Result<(), Fail> {
+    let planes = planes(rt.alloc())?;
+    let picture = crop(rt.alloc(), &planes, 9, 5)?;
+    assert_eq!(rt; (picture.width, picture.height), (9, 5));
+    assert_eq!(rt; at(&picture.y, [0, 9, 44]), [Some(0), Some(8), Some(40)]);
+    assert_eq!(rt; at(&picture.u, [0, 5, 14]), [Some(0), Some(8), Some(20)]);
+    assert_eq!(rt; at(&picture.v, [4, 13, 15]), [Some(4), Some(19), None]);
     Ok(())
 }
