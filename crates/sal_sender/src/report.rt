@@ -104,7 +104,7 @@ impl<C: Codec> Report<C> {
     }
 
     /// What the job gave, with the name of the state that a frame leads to.
-    pub(crate) fn named_outcome(&self) -> (Name, &Outcome<Arc<C::State>>)
+    pub fn named_outcome(&self) -> (Name, &Outcome<Arc<C::State>>)
         ensures encoding { IsOutcome (encoded C.coding self.now.work) result.1.now }
         ensures named { IsNamed C.coding result.0 result.1.now }
         ensures ran { did_run result.1.now ≡ self.now.ran }

@@ -1,7 +1,7 @@
 //! The jobs of a picture and their reports.
 
 ghost use Rattle.std.specs.Prelude.{◌≡◌, [], drop};
-ghost use Rattle.std.specs.Option.{option_map};
+ghost use Rattle.std.specs.Option.{option_map, option_copied};
 ghost use Rattle.sal_sender.specs.Seats.{listed, first_in, is_job_of, is_open_job, with_report};
 
 use crate::choice::JobRole;
@@ -43,6 +43,19 @@ impl<J: Drop> Queue<J> {
             spare: None,
             fine: None,
         }
+    }
+
+    /// The first one, lent.
+    pub(crate) fn first(&self) -> Option<&J>
+        ensures { option_copied result ≡ first_in (listed self.now) }
+    {
+        if self.coarse.is_some() {
+            return self.coarse.as_ref();
+        }
+        if self.spare.is_some() {
+            return self.spare.as_ref();
+        }
+        self.fine.as_ref()
     }
 
     /// Takes the first one out.

@@ -118,6 +118,21 @@ impl<C: Codec> Sender<C> {
         })
     }
 
+    /// How many datagrams were sent.
+    pub fn datagrams(&self) -> u32
+        ensures { result ≡ self.now.sent }
+    {
+        self.sent
+    }
+
+    /// The role of the job that is handed out next, if one waits.
+    pub fn next_role(&self) -> Option<JobRole>
+        ensures { result ≡ option_map (λ w. w.role) (first_in (listed self.now.waiting)) }
+    {
+        let job = self.waiting.first()?;
+        Some(job.role())
+    }
+
     #[tactic(auto, using(crate::proofs::Sized::rest_sized, crate::proofs::Sized::first_sized))]
     /// Hands out the job of the least number that wasn't handed out.
     pub fn take_job(&mut self) -> Option<Job<C>>

@@ -1,17 +1,16 @@
 -- The world of a run is that after its events.
-use Rattle.std.proofs.Common.{◌≡◌, ℕ, zero, suc, ◌*◌, ◌/◌, Bool, true, false, cond, not, List, [], ◌∷◌, length, filter, Option, Some, None, refl, ap, sym, subst}
+use Rattle.std.proofs.Common.{◌≡◌, ℕ, zero, suc, ◌*◌, ◌/◌, Bool, true, false, cond, List, [], ◌∷◌, length, Option, Some, None, refl, ap, sym, subst}
 use Rattle.std.specs.Prelude.{option_and_then}
 use Rattle.sal_base.specs.Lists.{Each}
 use Rattle.sal_base.specs.declared.picture.Picture.{Picture}
 use Rattle.sal_codec.specs.Coding.{Coding, IsLawful}
 use Rattle.sal_sender.specs.Jobs.{Job}
 use Rattle.sal_sender.specs.OneThread.{Session}
-use Rattle.sal_sender.specs.Choosing.{is_fine}
+use Rattle.sal_sender.specs.Choosing.{is_fine, first_of}
 use Rattle.sal_sender.specs.Answers.{waiting_jobs}
-use Rattle.sal_receiver.specs.Past.{taken}
 use Rattle.sal_receiver.specs.Ready.{take_answer as ready_answer}
-use Rattle.sal_world.specs.declared.script.ScriptLine.{ScriptLine}
-use Rattle.sal_world.specs.declared.script.ScriptLine.TheVariants.{Next as NextLine, NextLate, Down as DownLine, Up as UpLine, DownAll, UpAll, Wait, Rest}
+use Rattle.sal_script.specs.declared.line.ScriptLine.{ScriptLine}
+use Rattle.sal_script.specs.declared.line.ScriptLine.TheVariants.{Next as NextLine, NextLate, Down as DownLine, Up as UpLine, DownAll, UpAll, Wait, Rest}
 use Rattle.sal_world.specs.World.{Event, Next, Take, Reports, Chooses, Down, Up, Ready, Decodes, Moment, sent, acks, happens, after}
 use Rattle.sal_world.specs.Promises.{IsSession, HasSize, IsOfSize, Names, Holds}
 use Rattle.sal_world.specs.Script.{Run, begun, downs_in, ups_in, unnamed, is_number, with_event, run_jobs, next_picture, drained, down, up, each, down_all, up_all, wait, rest, next_line, line, played}
@@ -28,16 +27,29 @@ module _ {S : Type 0} (codec : Coding S) (session : Session) where
   unfolding after
   event_run event r size is = record { world = ap (λ w. happens codec session w event) is.world; sizes = (size, is.sizes); left = is.left }
 
-  jobs_run : (jobs : List Job) (r : Run S) → IsRun r → IsRun (run_jobs codec session jobs r)
-  jobs_run [] r is = is
-  jobs_run (job ∷ more) r is = jobs_run more _ (event_run (Reports job.id true) (with_event codec session Take r) tt (event_run Take r tt is))
+  either_run : (b : Bool) (r s : Run S) → IsRun r → IsRun s → IsRun (cond b r s)
+  either_run true r s is of = is
+  either_run false r s is of = of
+
+  jobs_step : (is_late : Job → Bool) (n : ℕ) (r : Run S) (o : Option Job) → IsRun r → ((s : Run S) → IsRun s → IsRun (run_jobs codec session is_late n s)) → IsRun (elim o as (λ x. Run S) [
+    | None ↦ r
+    | Some job ↦ cond (is_late job) r (run_jobs codec session is_late n (with_event codec session (Reports job.id true) (with_event codec session Take r)))
+  ])
+  jobs_step is_late n r None is more = is
+  jobs_step is_late n r (Some job) is more =
+      let s : Run S = with_event codec session (Reports job.id true) (with_event codec session Take r) in
+      either_run (is_late job) r (run_jobs codec session is_late n s) is (more s (event_run (Reports job.id true) (with_event codec session Take r) tt (event_run Take r tt is)))
+
+  jobs_run : (is_late : Job → Bool) (n : ℕ) (r : Run S) → IsRun r → IsRun (run_jobs codec session is_late n r)
+  unfolding run_jobs
+  jobs_run is_late zero r is = is
+  jobs_run is_late (suc n) r is = jobs_step is_late n r (first_of (waiting_jobs r.world.sender)) is (λ s of. jobs_run is_late n s of)
 
   picture_run : (is_late : Job → Bool) (picture : Picture) (r : Run S) → HasSize session picture → IsRun r → IsRun (next_picture codec session is_late picture r)
   picture_run is_late picture r size is =
       let s : Run S = with_event codec session (Next picture) r in
-      let jobs : List Job = waiting_jobs s.world.sender in
-      let early : Run S = run_jobs codec session (filter (λ job. not (is_late job)) jobs) s in
-      jobs_run (filter is_late jobs) (with_event codec session Chooses early) (event_run Chooses early tt (jobs_run (filter (λ job. not (is_late job)) jobs) s (event_run (Next picture) r size is)))
+      let early : Run S = run_jobs codec session is_late 3 s in
+      jobs_run (λ job. false) 3 (with_event codec session Chooses early) (event_run Chooses early tt (jobs_run is_late 3 s (event_run (Next picture) r size is)))
 
   drained_step : (n : ℕ) (r : Run S) (o : Option ℕ) → IsRun (with_event codec session Ready r) → ((s : Run S) → IsRun s → IsRun (drained codec session n s)) → IsRun (elim o as (λ x. Run S) [
     | None ↦ with_event codec session Ready r
@@ -52,7 +64,7 @@ module _ {S : Type 0} (codec : Coding S) (session : Session) where
   drained_run (suc n) r is = drained_step n r (ready_answer codec r.world.receiver) (event_run Ready r tt is) (λ s of. drained_run n s of)
 
   down_run : (k : ℕ) (r : Run S) → IsRun r → IsRun (down codec session k r)
-  down_run k r is = let s : Run S = with_event codec session (Down k) r in drained_run (length (taken s.world.receiver)) s (event_run (Down k) r tt is)
+  down_run k r is = let s : Run S = with_event codec session (Down k) r in drained_run (length (acks s.world)) s (event_run (Down k) r tt is)
 
   up_run : (k : ℕ) (r : Run S) → IsRun r → IsRun (up codec session k r)
   up_run k r is = event_run (Up k) r tt is
@@ -76,7 +88,7 @@ module _ {S : Type 0} (codec : Coding S) (session : Session) where
       rest_run more _ sizes.1 (wait_run ((1000000 * session.head.rate.1) / session.head.rate.0) _ (up_all_run _ (down_all_run _ (picture_run (λ job. false) picture r sizes.0 is))))
 
   -- a run, if there is one
-  abbrev IsRunIn : Option (Run S) → Type 0
+  abbrev pub IsRunIn : Option (Run S) → Type 0
   IsRunIn None = Unit {0}
   IsRunIn (Some r) = IsRun r
 
@@ -91,7 +103,7 @@ module _ {S : Type 0} (codec : Coding S) (session : Session) where
   if_run true r is = is
   if_run false r is = tt
 
-  line_run : (next : ScriptLine) (r : Run S) → IsRun r → IsRunIn (line codec session next r)
+  pub line_run : (next : ScriptLine) (r : Run S) → IsRun r → IsRunIn (line codec session next r)
   line_run NextLine r is = next_run (λ job. false) r.left r is.left is
   line_run NextLate r is = next_run is_fine r.left r is.left is
   line_run (DownLine k) r is = if_run (is_number k (length (sent r.world))) (down codec session k r) (down_run k r is)
@@ -109,7 +121,7 @@ module _ {S : Type 0} (codec : Coding S) (session : Session) where
   played_run [] o is = is
   played_run (next ∷ more) o is = played_run more (option_and_then (line codec session next) o) (then_run next o is)
 
-  begun_run : (pictures : List Picture) → Each (HasSize session) pictures → IsRun (begun pictures)
+  pub begun_run : (pictures : List Picture) → Each (HasSize session) pictures → IsRun (begun pictures)
   unfolding after
   begun_run pictures sizes = record { world = refl; sizes = tt; left = sizes }
 

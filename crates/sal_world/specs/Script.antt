@@ -6,12 +6,12 @@ use Rattle.sal_codec.specs.Coding.{Coding}
 use Rattle.sal_wire.specs.Pieces.{below}
 use Rattle.sal_sender.specs.Jobs.{Job}
 use Rattle.sal_sender.specs.OneThread.{Session}
-use Rattle.sal_sender.specs.Choosing.{is_fine}
+use Rattle.sal_sender.specs.Choosing.{is_fine, first_of}
 use Rattle.sal_sender.specs.Answers.{waiting_jobs}
-use Rattle.sal_receiver.specs.Past.{taken, shown}
+use Rattle.sal_receiver.specs.Past.{shown}
 use Rattle.sal_receiver.specs.Ready.{take_answer as ready_answer}
-use Rattle.sal_world.specs.declared.script.ScriptLine.{ScriptLine}
-use Rattle.sal_world.specs.declared.script.ScriptLine.TheVariants.{Next as NextLine, NextLate, Down as DownLine, Up as UpLine, DownAll, UpAll, Wait, Rest}
+use Rattle.sal_script.specs.declared.line.ScriptLine.{ScriptLine}
+use Rattle.sal_script.specs.declared.line.ScriptLine.TheVariants.{Next as NextLine, NextLate, Down as DownLine, Up as UpLine, DownAll, UpAll, Wait, Rest}
 use Rattle.sal_world.specs.World.{Event, Next, Take, Reports, Chooses, Down, Up, Ready, Decodes, Moment, World, start, sent, acks, happens}
 
 -- a run so far: its events with the newest first, the world that they make, and the pictures that are left
@@ -43,23 +43,27 @@ module _ {S : Type 0} (codec : Coding S) (session : Session) where
   abbrev pub with_event : Event → Run S → Run S
   with_event event r = record { events = event ∷ r.events; world = happens codec session r.world event; left = r.left }
 
-  -- each job is taken, run and reported
-  abbrev pub run_jobs : List Job → Run S → Run S
-  run_jobs [] r = r
-  run_jobs (job ∷ more) r = run_jobs more (with_event (Reports job.id true) (with_event Take r))
+  -- jobs are taken, run and reported in their order, at most so many, up to the first that is late
+  unfoldable pub run_jobs : (Job → Bool) → ℕ → Run S → Run S
+  run_jobs is_late zero r = r
+  run_jobs is_late (suc n) r = elim (first_of (waiting_jobs r.world.sender)) [
+    | None ↦ r
+    | Some job ↦ if is_late job then r else run_jobs is_late n (with_event (Reports job.id true) (with_event Take r))
+  ]
 
-  -- all jobs run, but for those that wait until after the choice
+  -- a picture has at most three jobs
+  abbrev pub most_jobs : ℕ
+  most_jobs = 3
+
+  -- all jobs run, the late ones after the choice
   abbrev pub chosen_after : (Job → Bool) → Run S → Run S
-  chosen_after is_late r = chosen_with (waiting_jobs r.world.sender)
-    where
-      chosen_with : List Job → Run S
-      chosen_with jobs = run_jobs (filter is_late jobs) (with_event Chooses (run_jobs (filter (λ job. not (is_late job)) jobs) r))
+  chosen_after is_late r = run_jobs (λ job. false) most_jobs (with_event Chooses (run_jobs is_late most_jobs r))
 
   -- a picture is started, encoded and chosen
   abbrev pub next_picture : (Job → Bool) → Picture → Run S → Run S
   next_picture is_late picture r = chosen_after is_late (with_event (Next picture) r)
 
-  -- each ready frame is decoded, until none is ready
+  -- each ready frame is decoded, until none is ready; there are at most so many
   unfoldable pub drained : ℕ → Run S → Run S
   drained zero r = with_event Ready r
   drained (suc n) r = elim (ready_answer codec r.world.receiver) [
@@ -71,7 +75,7 @@ module _ {S : Type 0} (codec : Coding S) (session : Session) where
   down k r = decode_all (with_event (Down k) r)
     where
       decode_all : Run S → Run S
-      decode_all r = drained (length (taken r.world.receiver)) r
+      decode_all r = drained (length (acks r.world)) r
 
   abbrev pub up : ℕ → Run S → Run S
   up k r = with_event (Up k) r

@@ -8,7 +8,7 @@ ghost use Rattle.sal_sender.specs.Promises.{IsWhatOneThreadSends, FitsItsBudget}
 ghost use Rattle.sal_world.specs.World.{Event, after};
 ghost use Rattle.sal_world.specs.Promises.{IsSession, HasSize, Names, Holds, AllInterleavings};
 ghost use Rattle.sal_world.specs.Invariant.{Invariant, IsKept, HoldsEverywhere};
-ghost use Rattle.sal_world.specs.declared.script.ScriptLine.{ScriptLine};
+ghost use Rattle.sal_script.specs.declared.line.ScriptLine.{ScriptLine};
 ghost use Rattle.sal_world.specs.Script.{Run, begun, played};
 
 use sal_codec::{Codec, keeps_the_law};

@@ -3,7 +3,6 @@
 
 mod event;
 mod laws;
-mod script;
 mod text;
 mod world;
 
@@ -12,7 +11,6 @@ pub use laws::{
     a_script_keeps_every_promise, each_event_keeps_the_invariant, keeps_every_promise,
     keeps_its_promises, sends_in_every_world,
 };
-pub use script::ScriptLine;
 pub use world::World;
 
 #[cfg(test)]

@@ -2,14 +2,15 @@
 
 ghost use Rattle.std.specs.Prelude.{◌≡◌, ◌+◌, ◌<◌, ◌≤◌, ◌^◌, [], ◌∷◌, ◌++◌, true, not, List, length, IfOk, vec_len, vec_capacity};
 ghost use Rattle.std.specs.Arc.{arc_value};
-ghost use Rattle.std.specs.Option.{option_copied};
+ghost use Rattle.std.specs.Option.{option_copied, option_map};
 ghost use Rattle.sal_codec.specs.Coding.{HasSides};
 ghost use Rattle.sal_sender.specs.Machine.{IsHead};
 ghost use Rattle.sal_sender.specs.OneThread.{Session};
-ghost use Rattle.sal_sender.specs.Answers.{starts};
+ghost use Rattle.sal_sender.specs.Choosing.{first_of};
+ghost use Rattle.sal_sender.specs.Answers.{starts, waiting_jobs};
 ghost use Rattle.sal_sender.specs.Stands.{IsOwnWork};
 ghost use Rattle.sal_receiver.specs.Work.{IsOwn};
-ghost use Rattle.sal_world.specs.World.{World as WorldOf, Event as EventOf, member, after};
+ghost use Rattle.sal_world.specs.World.{World as WorldOf, Event as EventOf, member, sent, after};
 ghost use Rattle.sal_world.specs.Promises.{Names, Holds};
 ghost use Rattle.sal_world.specs.Answers.{said, is_refused, did_decode, next_said, IsHonest};
 ghost use Rattle.sal_world.specs.Stands.{IsWorld, Stands, IsFit, May, Happened, Stepped};
@@ -19,7 +20,7 @@ use crate::text::{room, write};
 use sal_base::{Bytes, Memory, Picture};
 use sal_codec::{Codec, keeps_the_law};
 use sal_receiver::{Decoding, Delivered, Receiver};
-use sal_sender::{Burst, Chosen, Next, Report, Sender};
+use sal_sender::{Burst, Chosen, JobRole, Next, Report, Sender};
 use sal_y4m::Head;
 use std::alloc::Global;
 use std::marker::Model;
@@ -119,6 +120,20 @@ impl<C: Codec> World<C> {
         ensures { result.now ≡ self.now.sent }
     {
         self.sent.as_slice()
+    }
+
+    /// How many datagrams were sent.
+    pub fn datagrams(&self) -> u32
+        ensures { (session : Session) (events : List EventOf) → Stands C.coding session self.now events → result ≡ length (sent (after C.coding session events)) }
+    {
+        self.sender.datagrams()
+    }
+
+    /// The role of the job that `Take` hands out next, if one waits.
+    pub fn next_role(&self) -> Option<JobRole>
+        ensures { (session : Session) (events : List EventOf) → Stands C.coding session self.now events → result ≡ option_map (λ job. job.role) (first_of (waiting_jobs (after C.coding session events).sender)) }
+    {
+        self.sender.next_role()
     }
 
     /// How many acknowledgements there are.

@@ -1,5 +1,5 @@
 -- The narrow form that is read, and the form that is written.
-use Rattle.std.specs.Prelude.{◌≡◌, ℕ, ◌+◌, ◌*◌, ◌≤◌, List, ◌++◌, length, take, drop, Option, Some, None, nat_le, ◌==◌, ◌&&◌, if◌then◌else◌, codes, decimal}
+use Rattle.std.specs.Prelude.{◌≡◌, ℕ, ◌+◌, ◌*◌, List, ◌++◌, length, take, drop, Option, Some, None, nat_le, ◌==◌, ◌&&◌, if◌then◌else◌, codes, decimal}
 use Rattle.std.specs.Str.{bytes_eq}
 use Rattle.sal_base.specs.declared.picture.Plane.{Plane}
 use Rattle.sal_base.specs.declared.picture.Picture.{Picture}
@@ -16,23 +16,16 @@ after word bytes = if bytes_eq (take (length word) bytes) word then Some (drop (
 abbrev pub samples_of : ℕ → ℕ → ℕ
 samples_of width height = width * height + 2 * (half width * half height)
 
--- sides within the limits, of a picture that fits one datagram
-pub record AreNarrow (width height : ℕ) : Type 0 where
-  pub sides : AreSides width height
-  pub samples : samples_of width height ≤ 1195
-
--- a head of the narrow form: its sides, and 30 pictures in 1 second
+-- a head of the narrow form: sides within the limits, and 30 pictures in 1 second
 pub record IsNarrow (head : Head) : Type 0 where
-  pub narrow : AreNarrow head.width head.height
+  pub sides : AreSides head.width head.height
   pub pictures : head.rate.0 ≡ 30
   pub seconds : head.rate.1 ≡ 1
 
--- the two numbers as sides, where they are within the limits and the picture fits one datagram
+-- the two numbers as sides, where they are within the limits
 abbrev pub sides_of : ℕ → ℕ → Option (ℕ × ℕ)
 sides_of width height =
-    if nat_le 1 width && nat_le width 1280 && nat_le 1 height && nat_le height 720 && nat_le (samples_of width height) 1195
-    then Some (width, height)
-    else None
+    if nat_le 1 width && nat_le width 1280 && nat_le 1 height && nat_le height 720 then Some (width, height) else None
 
 -- the head that a header line represents, without its newline
 abbrev pub header_of : List ℕ → Option Head

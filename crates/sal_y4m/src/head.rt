@@ -1,7 +1,8 @@
 //! The head of a clip.
 
 ghost use Rattle.std.specs.Prelude.{◌≡◌, IfSome};
-ghost use Rattle.sal_y4m.specs.Grammar.{header_of, sides_of, AreNarrow, IsNarrow};
+ghost use Rattle.sal_base.specs.Picture.{AreSides};
+ghost use Rattle.sal_y4m.specs.Grammar.{header_of, sides_of, IsNarrow};
 
 use sal_base::{MAX_HEIGHT, MAX_WIDTH, number};
 
@@ -13,19 +14,12 @@ pub struct Head {
     pub rate: (u32, u32),
 }
 
-// The samples of the largest picture that fits one datagram.
-const MOST_SAMPLES: u32 = 1195;
-
-// Sides within the limits, of a picture that fits one datagram.
-fn narrow(width: u32, height: u32) -> Option<(u16, u16)>
+// The two numbers as sides, where they are within the limits.
+fn sides(width: u32, height: u32) -> Option<(u16, u16)>
     ensures value { result ≡ sides_of width height }
-    ensures within { IfSome result (λ sides. AreNarrow sides.0 sides.1) }
+    ensures within { IfSome result (λ sides. AreSides sides.0 sides.1) }
 {
     if width < 1 || width > MAX_WIDTH as u32 || height < 1 || height > MAX_HEIGHT as u32 {
-        return None;
-    }
-    let chroma = width.div_ceil(2) * height.div_ceil(2);
-    if width * height + 2 * chroma > MOST_SAMPLES {
         return None;
     }
     Some((width as u16, height as u16))
@@ -43,7 +37,7 @@ pub fn header(line: &[u8]) -> Option<Head>
     if !rest.is_empty() {
         return None;
     }
-    let (width, height) = narrow(width, height)?;
+    let (width, height) = sides(width, height)?;
     Some(Head {
         width,
         height,

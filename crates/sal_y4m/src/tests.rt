@@ -76,13 +76,14 @@ fn clip_through_short_writes(rt: HostRuntime) -> Result<(), Fail> {
 #[test]
 fn headers(rt: HostRuntime) -> Result<(), Fail> {
     let alloc = rt.alloc();
-    let lines: [(&[u8], bool); 15] = [
+    let lines: [(&[u8], bool); 16] = [
         (b"YUV4MPEG2 W16 H16\n", true),
         (b"YUV4MPEG2 W1 H1\nFRAME\n", true),
         (b"YUV4MPEG2 W0000000016 H16\n", true),
         (b"YUV4MPEG2 W00000000016 H16\n", false),
-        (b"YUV4MPEG2 W597 H1\n", true),
-        (b"YUV4MPEG2 W598 H1\n", false),
+        (b"YUV4MPEG2 W1280 H720\n", true),
+        (b"YUV4MPEG2 W1281 H720\n", false),
+        (b"YUV4MPEG2 W1280 H721\n", false),
         (b"YUV4MPEG2 W0 H16\n", false),
         (b"YUV4MPEG2 W16 H0\n", false),
         (b"YUV4MPEG2 W4294967312 H16\n", false),
