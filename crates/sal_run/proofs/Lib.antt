@@ -1,0 +1,10 @@
+pub mod Steps
+pub mod Grow
+pub mod Turns
+pub mod Walks
+pub mod Clips
+pub mod Onward
+pub mod Resting
+pub mod Whole
+pub mod Sizes
+pub mod Promised

@@ -1,0 +1,428 @@
+-- How a whole run ends.
+use Rattle.std.proofs.Common.{◌≡◌, ◌≢◌, ℕ, zero, suc, ◌+◌, ◌-◌, ◌<◌, ◌≤◌, Bool, true, false, cond, List, [], ◌∷◌, ◌++◌, length, take, drop, get_or, Option, Some, None, Result, Ok, Err, IfSome, IfErr, OnOk, is_some, refl, ap, sym, ◌∙◌, subst, arith, append-nil, append_assoc, inl, inr, ◌⊎◌}
+use Rattle.std.specs.Result.{IsErrAnd}
+use Rattle.std.proofs.lemmas.List.{at_drop_more, at_drop_all}
+use Rattle.std.specs.Io.KnownBytes.{Appends}
+use Rattle.sal_base.specs.declared.picture.Picture.{Picture}
+use Rattle.sal_codec.specs.Coding.{Coding}
+use Rattle.sal_y4m.specs.declared.head.Head.{Head}
+use Rattle.sal_y4m.specs.declared.fault.Why.{Why}
+use Rattle.sal_y4m.specs.declared.fault.Why.TheVariants.{Form}
+use Rattle.sal_y4m.specs.declared.fault.WriteFault.{WriteFault as WriteFaultData}
+use Rattle.sal_y4m.specs.Answers.{Writes}
+use Rattle.sal_y4m.specs.Grammar.{picture_at, head_text}
+use Rattle.sal_script.specs.Numbered.{Numbered}
+use Rattle.sal_world.specs.Both.{Both}
+use Rattle.sal_world.specs.World.{Event, World, start, after}
+use Rattle.sal_world.specs.Stands.{Stands}
+use Rattle.sal_world.specs.Script.{Run, begun, downs_in, ups_in}
+use Rattle.sal_run.specs.declared.diary.DiaryFault.{DiaryFault}
+use Rattle.sal_run.specs.declared.diary.DiaryFault.TheVariants as diary
+use Rattle.sal_run.specs.declared.stop.Stop.{Stop}
+use Rattle.sal_run.specs.declared.stop.Stop.TheVariants as stop
+use Rattle.sal_io.specs.Calls.{HasCause}
+use Rattle.sal_run.specs.declared.end.RunEnd.TheVariants as run
+use Rattle.sal_run.specs.declared.end.Which.TheVariants.{Out, Journal}
+use Rattle.sal_run.specs.Stops.{end_of, run_end}
+use Rattle.sal_run.specs.Clip.{End, Done, BadInput, BadScript, TooMany, TooLong, Clip, most}
+use Rattle.sal_run.specs.Loop.{session_of, out_text, or_end, ended, clip_run}
+use Rattle.sal_run.specs.Ends.{AtEnd, IsAtNext, ToldBoth, Partly, PartlyOrNot, UpToNext, Cut, Ends, RunGives}
+use Rattle.sal_run.specs.Marks.{Marks}
+use Rattle.sal_run.specs.Named.{AreNamed}
+use Rattle.sal_run.specs.Running.{Opened, IsNoted, IsRunning, PartlyOf, CutOf, Stopped, IsAt}
+use Rattle.sal_run.specs.Input.{clip_in, TakeGives, FinishGives, IsNothing, Told2, onward, EndsAs, ToNextOf, Halts, LineGoes}
+use Rattle.sal_run.proofs.Clips.{clip_some, clip_end, clip_broken, clip_over}
+use Rattle.sal_run.proofs.Onward.{some_is, run_from}
+
+not_told : false ≡ true → ⊥
+not_told e = absurd cc
+
+-- the line at a place, and those after it
+pub drop_at : (all : List Numbered) (i : ℕ) (d : Numbered) → i < length all → drop i all ≡ get_or all i d ∷ drop (i + 1) all
+drop_at all i d lt = at_drop_more (λ (xs : List Numbered). xs) all i d lt
+
+pub drop_end : (all : List Numbered) (i : ℕ) → length all ≤ i → drop i all ≡ []
+drop_end all i le = at_drop_all (λ (xs : List Numbered). xs) all i le
+
+module _ {S : Type 0} (codec : Coding S) (head : Head) where
+  -- ---- the lines, one after the other
+
+  pub record LinesLeft (m0 : ℕ) (left0 : Option (List ℕ)) (all : List Numbered) (r : Run S) (at m : ℕ) (left : Option (List ℕ)) (b : Both S) (d u : Marks) (held : Option (List ℕ)) : Type 0 where
+    pub now : Run S
+    pub here : IsAt codec head b d u held now
+    pub told : Told2 left0 left (λ l0 l. onward codec head m0 l0 all r ≡ onward codec head m l (drop at all) now)
+
+  same_told : (m : ℕ) (left : Option (List ℕ)) (all : List Numbered) (r : Run S) → Told2 left left (λ l0 l. onward codec head m l0 all r ≡ onward codec head m l all r)
+  same_told m None all r = tt
+  same_told m (Some l) all r = refl
+
+  pub lines_first : (m : ℕ) (left : Option (List ℕ)) (all : List Numbered) (r : Run S) (b : Both S) (d u : Marks) (held : Option (List ℕ)) → IsAt codec head b d u held r → LinesLeft m left all r 0 m left b d u held
+  lines_first m left all r b d u held at = record { now = r; here = at; told = same_told m left all r }
+
+  then_told : (m0 m m' : ℕ) (left0 left left' : Option (List ℕ)) (all lines more : List Numbered) (r now s : Run S) → is_some left ≡ is_some left0 → Told2 left0 left (λ l0 l. onward codec head m0 l0 all r ≡ onward codec head m l lines now)
+      → Told2 left left' (λ l l'. onward codec head m l lines now ≡ onward codec head m' l' more s) → Told2 left0 left' (λ l0 l'. onward codec head m0 l0 all r ≡ onward codec head m' l' more s)
+  then_told m0 m m' None left left' all lines more r now s tells a b = tt
+  then_told m0 m m' (Some l0) left None all lines more r now s tells a b = tt
+  then_told m0 m m' (Some l0) None (Some l') all lines more r now s tells a b = absurd (not_told tells)
+  then_told m0 m m' (Some l0) (Some l) (Some l') all lines more r now s tells a b = a ∙ b
+
+  module _ (gives : DiaryFault → Bool) where
+    pub lines_next : (m0 m m' : ℕ) (left0 left left' : Option (List ℕ)) (all : List Numbered) (numbered : Numbered) (r : Run S) (at : ℕ) (b0 b : Both S) (d0 u0 d u : Marks) (held0 held : Option (List ℕ)) (now : LinesLeft m0 left0 all r at m left b0 d0 u0 held0) → is_some left ≡ is_some left0
+        → drop at all ≡ numbered ∷ drop (at + 1) all → (s : Run S) × (IsAt codec head b d u held s × Told2 left left' (λ l l'. onward codec head m l (numbered ∷ drop (at + 1) all) now.now ≡ onward codec head m' l' (drop (at + 1) all) s))
+        → LinesLeft m0 left0 all r (at + 1) m' left' b d u held
+    lines_next m0 m m' left0 left left' all numbered r at b0 b d0 u0 d u held0 held now tells e s = record {
+      now = s.0;
+      here = s.1.0;
+      told = then_told m0 m m' left0 left left' all (numbered ∷ drop (at + 1) all) (drop (at + 1) all) r now.now s.0 tells
+          (subst (λ (ls : List Numbered). Told2 left0 left (λ l0 l. onward codec head m0 l0 all r ≡ onward codec head m l ls now.now)) e now.told) s.1.1;
+    }
+
+    -- what stops the run from here stops it from the start
+    pub halts_from : (left0 left held : Option (List ℕ)) (final0 final : List ℕ → Run S × End) (why : Stop) → is_some left ≡ is_some left0 → Told2 left0 left (λ l0 l. final0 l0 ≡ final l) → Halts codec head gives left held final why → Halts codec head gives left0 held final0 why
+    halts_from None left held final0 final (stop.BadInput place w) tells same p = tt
+    halts_from None left held final0 final (stop.BadScript line) tells same p = tt
+    halts_from None left held final0 final stop.TooMany tells same p = tt
+    halts_from None left held final0 final stop.TooLong tells same p = tt
+    halts_from None left held final0 final stop.ReadFault tells same p = tt
+    halts_from None left held final0 final stop.Out tells same p = tt
+    halts_from None left held final0 final (stop.Diary fault) tells same p = (p.0, tt)
+    halts_from None left held final0 final stop.Memory tells same p = tt
+    halts_from (Some l0) None held final0 final why tells same p = absurd (not_told tells)
+    halts_from (Some l0) (Some l) held final0 final (stop.BadInput place w) tells same p = subst (λ (t : Run S × End). EndsAs codec head held (BadInput place w) t) (sym same) p
+    halts_from (Some l0) (Some l) held final0 final (stop.BadScript line) tells same p = subst (λ (t : Run S × End). EndsAs codec head held (BadScript line) t) (sym same) p
+    halts_from (Some l0) (Some l) held final0 final stop.TooMany tells same p = subst (λ (t : Run S × End). EndsAs codec head held TooMany t) (sym same) p
+    halts_from (Some l0) (Some l) held final0 final stop.TooLong tells same p = subst (λ (t : Run S × End). EndsAs codec head held TooLong t) (sym same) p
+    halts_from (Some l0) (Some l) held final0 final stop.ReadFault tells same p = subst (λ (t : Run S × End). IfSome held (λ o. ToNextOf codec head t.0.events o)) (sym same) p
+    halts_from (Some l0) (Some l) held final0 final stop.Out tells same p = subst (λ (t : Run S × End). IfSome held (λ o. CutOf codec head t.0.events o)) (sym same) p
+    halts_from (Some l0) (Some l) held final0 final (stop.Diary fault) tells same p = (p.0, subst (λ (t : Run S × End). IfSome held (λ o. PartlyOf codec head t.0.events o)) (sym same) p.1)
+    halts_from (Some l0) (Some l) held final0 final stop.Memory tells same p = subst (λ (t : Run S × End). IfSome held (λ o. PartlyOf codec head t.0.events o)) (sym same) p
+
+    pub lines_exit : (m0 m : ℕ) (left0 left : Option (List ℕ)) (all : List Numbered) (numbered : Numbered) (r : Run S) (at : ℕ) (b0 : Both S) (d0 u0 : Marks) (held0 held : Option (List ℕ)) (why : Stop) (now : LinesLeft m0 left0 all r at m left b0 d0 u0 held0) → is_some left ≡ is_some left0
+        → drop at all ≡ numbered ∷ drop (at + 1) all → Halts codec head gives left held (λ l. onward codec head m l (numbered ∷ drop (at + 1) all) now.now) why → Halts codec head gives left0 held (λ l. onward codec head m0 l all r) why
+    lines_exit m0 m left0 left all numbered r at b0 d0 u0 held0 held why now tells e p =
+        halts_from left0 left held (λ l. onward codec head m0 l all r) (λ l. onward codec head m l (numbered ∷ drop (at + 1) all) now.now) why tells
+        (subst (λ (ls : List Numbered). Told2 left0 left (λ l0 l. onward codec head m0 l0 all r ≡ onward codec head m l ls now.now)) e now.told) p
+
+    pub lines_last : (m0 m : ℕ) (left0 left : Option (List ℕ)) (all : List Numbered) (r : Run S) (at : ℕ) (b : Both S) (d u : Marks) (held : Option (List ℕ)) (now : LinesLeft m0 left0 all r at m left b d u held) → drop at all ≡ []
+        → (s : Run S) × (IsAt codec head b d u held s × Told2 left0 left (λ l0 l. onward codec head m0 l0 all r ≡ onward codec head m l [] s))
+    lines_last m0 m left0 left all r at b d u held now e = (now.now, (now.here, subst (λ (ls : List Numbered). Told2 left0 left (λ l0 l. onward codec head m0 l0 all r ≡ onward codec head m l ls now.now)) e now.told))
+
+    -- a line whose contract speaks of the reader's head
+    abbrev LineDid : Head → Numbered → ℕ → ℕ → Option (List ℕ) → Option (List ℕ) → Both S → Marks → Marks → Option (List ℕ) → Both S → Marks → Marks → Option (List ℕ) → Result (Unit {0}) Stop → Type 0
+    LineDid h numbered m m' left left' b0 d0 u0 held0 b d u held result =
+        (more : List Numbered) (q : Run S) → IsAt codec h b0 d0 u0 held0 q → LineGoes codec h gives (numbered ∷ more) more m m' left left' b d u held q result
+
+    pub line_err : (h : Head) (m0 m m' : ℕ) (left0 left left' : Option (List ℕ)) (all : List Numbered) (numbered : Numbered) (r : Run S) (at : ℕ) (b0 b : Both S) (d0 u0 d u : Marks) (held0 held : Option (List ℕ)) (result : Result (Unit {0}) Stop) (why : Stop)
+        (now : LinesLeft m0 left0 all r at m left b0 d0 u0 held0) → h ≡ head → result ≡ Err why → is_some left ≡ is_some left0 → drop at all ≡ numbered ∷ drop (at + 1) all
+        → LineDid h numbered m m' left left' b0 d0 u0 held0 b d u held result → Halts codec head gives left0 held (λ l. onward codec head m0 l all r) why
+    line_err h m0 m m' left0 left left' all numbered r at b0 b d0 u0 d u held0 held result why now same was tells e did =
+        let own : LineDid head numbered m m' left left' b0 d0 u0 held0 b d u held result = subst (λ x. LineDid x numbered m m' left left' b0 d0 u0 held0 b d u held result) same did in
+        let stopped : Result (Unit {0}) Stop = Err why in
+        let goes : LineGoes codec head gives (numbered ∷ drop (at + 1) all) (drop (at + 1) all) m m' left left' b d u held now.now stopped =
+        subst (λ (x : Result (Unit {0}) Stop). LineGoes codec head gives (numbered ∷ drop (at + 1) all) (drop (at + 1) all) m m' left left' b d u held now.now x) was (own (drop (at + 1) all) now.now now.here) in
+        lines_exit m0 m left0 left all numbered r at b0 d0 u0 held0 held why now tells e goes
+
+    pub line_ok : (h : Head) (m0 m m' : ℕ) (left0 left left' : Option (List ℕ)) (all : List Numbered) (numbered : Numbered) (r : Run S) (at : ℕ) (b0 b : Both S) (d0 u0 d u : Marks) (held0 held : Option (List ℕ)) (result : Result (Unit {0}) Stop) (x : Unit {0})
+        (now : LinesLeft m0 left0 all r at m left b0 d0 u0 held0) → h ≡ head → result ≡ Ok x → is_some left ≡ is_some left0 → drop at all ≡ numbered ∷ drop (at + 1) all
+        → LineDid h numbered m m' left left' b0 d0 u0 held0 b d u held result → LinesLeft m0 left0 all r (at + 1) m' left' b d u held
+    line_ok h m0 m m' left0 left left' all numbered r at b0 b d0 u0 d u held0 held result x now same was tells e did =
+        let own : LineDid head numbered m m' left left' b0 d0 u0 held0 b d u held result = subst (λ x. LineDid x numbered m m' left left' b0 d0 u0 held0 b d u held result) same did in
+        let goes : LineGoes codec head gives (numbered ∷ drop (at + 1) all) (drop (at + 1) all) m m' left left' b d u held now.now (Ok x) =
+        subst (λ (x : Result (Unit {0}) Stop). LineGoes codec head gives (numbered ∷ drop (at + 1) all) (drop (at + 1) all) m m' left left' b d u held now.now x) was (own (drop (at + 1) all) now.now now.here) in
+        lines_next m0 m m' left0 left left' all numbered r at b0 b d0 u0 d u held0 held now tells e goes
+
+-- ---- the rest of the input
+
+abbrev pub SameFault : Head → ℕ → Option (List ℕ) → ℕ → Option (List ℕ) → Type 0
+SameFault head m0 left0 m left = Told2 left0 left (λ l0 l. (clip_in head m l).fault ≡ (clip_in head m0 l0).fault)
+
+pub fault_first : (head : Head) (m : ℕ) (left : Option (List ℕ)) → SameFault head m left m left
+fault_first head m None = tt
+fault_first head m (Some l) = refl
+
+pub fault_next : (head : Head) (m0 m m' : ℕ) (left0 left left' : Option (List ℕ)) (found : Option Picture) (p : Picture) → is_some left ≡ is_some left0 → found ≡ Some p → TakeGives head m left left' (Ok found) → m' + 1 ≡ m → SameFault head m0 left0 m left → SameFault head m0 left0 m' left'
+fault_next head m0 m m' None left left' found p tells e t count same = tt
+fault_next head m0 m m' (Some l0) left None found p tells e t count same = tt
+fault_next head m0 m m' (Some l0) None (Some l') found p tells e t count same = absurd (not_told tells)
+fault_next head m0 m m' (Some l0) (Some l) (Some l') None p tells e t count same = absurd cc
+fault_next head m0 zero m' (Some l0) (Some l) (Some l') (Some f) p tells e t count same = absurd (omega (arith, count))
+fault_next head m0 (suc m) m' (Some l0) (Some l) (Some l') (Some f) p tells e t count same =
+    let own : picture_at head l ≡ Some (f, l') = t.1 in
+    let k : m ≡ m' = omega (arith, count) in
+    let P : ℕ → Type 0 = λ n. (clip_in head n l').fault ≡ (clip_in head m0 l0).fault in
+    subst P k (sym (ap (λ (c : Clip). c.fault) (clip_some head m l l' f own)) ∙ same)
+
+pub fault_stops : (head : Head) (m0 m : ℕ) (left0 left left' : Option (List ℕ)) (why : Stop) → is_some left ≡ is_some left0 → TakeGives head m left left' (Err why) → SameFault head m0 left0 m left → FinishGives head m0 left0 left' (Err why)
+fault_stops head m0 m left0 left left' (stop.BadScript line) tells t same = absurd t
+fault_stops head m0 m left0 left left' stop.Out tells t same = absurd t
+fault_stops head m0 m left0 left left' (stop.Diary fault) tells t same = absurd t
+fault_stops head m0 m left0 left left' stop.ReadFault tells t same = tt
+fault_stops head m0 m left0 left left' stop.Memory tells t same = tt
+fault_stops head m0 m None left left' (stop.BadInput place why) tells t same = tt
+fault_stops head m0 m None left left' stop.TooMany tells t same = tt
+fault_stops head m0 m None left left' stop.TooLong tells t same = tt
+fault_stops head m0 m (Some l0) None left' (stop.BadInput place why) tells t same = absurd (not_told tells)
+fault_stops head m0 m (Some l0) None left' stop.TooMany tells t same = absurd (not_told tells)
+fault_stops head m0 m (Some l0) None left' stop.TooLong tells t same = absurd (not_told tells)
+fault_stops head m0 m (Some l0) (Some l) left' (stop.BadInput place why) tells t same =
+    let own : (clip_in head m l).fault ≡ Some (BadInput place why) =
+    ap (λ (c : Clip). c.fault) (clip_broken head m l t.2.0 t.2.1) ∙ (ap (λ (k : ℕ). Some (BadInput k Form)) (sym t.0) ∙ ap (λ (w : Why). Some (BadInput place w)) (sym t.1)) in
+    sym same ∙ own
+fault_stops head m0 m (Some l0) (Some l) None stop.TooMany tells t same = absurd t.2.1
+fault_stops head m0 m (Some l0) (Some l) (Some l') stop.TooMany tells t same = sym same ∙ (ap (λ (c : Clip). c.fault) (clip_over head m l l' t.2.0 t.1 t.2.1) ∙ ap (λ (e : End). Some e) t.0)
+fault_stops head m0 m (Some l0) (Some l) None stop.TooLong tells t same = absurd t.2.1
+fault_stops head m0 m (Some l0) (Some l) (Some l') stop.TooLong tells t same = sym same ∙ (ap (λ (c : Clip). c.fault) (clip_over head m l l' t.2.0 t.1 t.2.1) ∙ ap (λ (e : End). Some e) t.0)
+
+pub fault_none : (head : Head) (m0 m : ℕ) (left0 left left' : Option (List ℕ)) (found : Option Picture) → is_some left ≡ is_some left0 → found ≡ None → TakeGives head m left left' (Ok found) → SameFault head m0 left0 m left → FinishGives head m0 left0 left' (Ok tt)
+fault_none head m0 m left0 left left' (Some f) tells e t same = absurd cc
+fault_none head m0 m None left left' None tells e t same = (tt, t.1)
+fault_none head m0 m (Some l0) None left' None tells e t same = absurd (not_told tells)
+fault_none head m0 m (Some l0) (Some l) left' None tells e t same = (sym same ∙ ap (λ (c : Clip). c.fault) (clip_end head m l t.0), t.1)
+
+pub finish_exit : (head : Head) (m : ℕ) (left left' : Option (List ℕ)) (result : Result (Unit {0}) Stop) (why : Stop) → IsErrAnd result (λ e. e ≡ why) → FinishGives head m left left' (Err why) → FinishGives head m left left' result
+finish_exit head m left left' (Ok x) why h p = absurd h
+finish_exit head m left left' (Err e) why h p = subst (λ s. FinishGives head m left left' (Err s)) (sym h) p
+
+-- ---- a whole run
+
+module _ {S : Type 0} (codec : Coding S) (head : Head) (lines : List Numbered) (gives : DiaryFault → Bool) where
+  abbrev run_of : List ℕ → Run S × End
+  run_of i = clip_run codec head i lines
+
+  part_either : (i o : Option (List ℕ)) → Told2 i o (λ l p. PartlyOf codec head (run_of l).0.events p) → ToldBoth codec head lines i o (PartlyOrNot codec head lines)
+  part_either None o h = tt
+  part_either (Some l) None h = tt
+  part_either (Some l) (Some p) h = inr h
+
+  nothing_either : (i o : Option (List ℕ)) → IfSome o (λ xs. xs ≡ []) → ToldBoth codec head lines i o (PartlyOrNot codec head lines)
+  nothing_either None o h = tt
+  nothing_either (Some l) None h = tt
+  nothing_either (Some l) (Some p) h = inl h
+
+  -- what a run gives that stops
+  pub halts_gives : (i o : Option (List ℕ)) (why : Stop) → Halts codec head gives i o run_of why → RunGives codec head lines gives (end_of why) i o
+  halts_gives i o (stop.BadInput place w) h = h
+  halts_gives i o (stop.BadScript line) h = h
+  halts_gives i o stop.TooMany h = h
+  halts_gives i o stop.TooLong h = inl h
+  halts_gives i o stop.ReadFault h = h
+  halts_gives i o stop.Out h = h
+  halts_gives i o (stop.Diary diary.Failed) h = (h.0, part_either i o h.1)
+  halts_gives i o (stop.Diary diary.TooLong) h = inr (h.0, part_either i o h.1)
+  halts_gives i o (stop.Diary diary.Memory) h = part_either i o h.1
+  halts_gives i o stop.Memory h = part_either i o h
+
+  -- before the header is written
+  pub nothing_memory : (i o : Option (List ℕ)) (why : Stop) → why ≡ stop.Memory → IfSome o (λ xs. xs ≡ []) → RunGives codec head lines gives (end_of why) i o
+  nothing_memory i o why e h = subst (λ (s : Stop). RunGives codec head lines gives (end_of s) i o) (sym e) (nothing_either i o h)
+
+  pub nothing_noted : (i o : Option (List ℕ)) (why : Stop) → IsNoted gives (Err why) → IfSome o (λ xs. xs ≡ []) → RunGives codec head lines gives (end_of why) i o
+  nothing_noted i o (stop.BadInput place w) n h = absurd n
+  nothing_noted i o (stop.BadScript line) n h = absurd n
+  nothing_noted i o stop.TooMany n h = absurd n
+  nothing_noted i o stop.TooLong n h = absurd n
+  nothing_noted i o stop.ReadFault n h = absurd n
+  nothing_noted i o stop.Out n h = absurd n
+  nothing_noted i o (stop.Diary diary.Failed) n h = (n, nothing_either i o h)
+  nothing_noted i o (stop.Diary diary.TooLong) n h = inr (n, nothing_either i o h)
+  nothing_noted i o (stop.Diary diary.Memory) n h = nothing_either i o h
+  nothing_noted i o stop.Memory n h = absurd n
+
+  start_text : out_text {S = S} head start ≡ head_text head
+  start_text = append-nil (head_text head)
+
+  first_text : out_text head (after codec (session_of head) []) ≡ head_text head
+  unfolding after
+  first_text = start_text
+
+  -- the header wasn't written whole
+  pub header_cut : (i old new : Option (List ℕ)) → is_some new ≡ is_some old → IfSome old (λ xs. xs ≡ []) → ((n : ℕ) × (n ≤ length (head_text head)) × Appends old new (take n (head_text head))) → RunGives codec head lines gives (end_of stop.Out) i new
+  header_cut None old new tells none w = tt
+  header_cut (Some l) old None tells none w = tt
+  header_cut (Some l) None (Some o) tells none w = absurd (not_told (sym tells))
+  header_cut (Some l) (Some z) (Some o) tells none w =
+      (w.0, (head_text head, ((run_of l).0.events, ([], sym (append-nil (run_of l).0.events), sym first_text)), w.2 ∙ ap (λ (xs : List ℕ). xs ++ take w.0 (head_text head)) none))
+
+  -- a session in which nothing happened, and whose header is written
+  pub begun_here : (b : Both S) (d u : Marks) (old new : Option (List ℕ)) → Stands codec (session_of head) b [] → d ≡ record { marks = []; known = 0 } → u ≡ record { marks = []; known = 0 } → is_some new ≡ is_some old → IfSome old (λ xs. xs ≡ []) → Appends old new (head_text head) → IsAt codec head b d u new (begun [])
+  unfolding after
+  begun_here b d u old new stands no_downs no_ups tells none w = record {
+    running = record { stands = stands; world = refl; shown = header_shown old new tells none w };
+    downs_are = subst (λ (m : Marks). AreNamed downs_in [] m) (sym no_downs) (record { marked = λ k. refl; known = λ k low high. absurd (omega (arith, low, high)) });
+    ups_are = subst (λ (m : Marks). AreNamed ups_in [] m) (sym no_ups) (record { marked = λ k. refl; known = λ k low high. absurd (omega (arith, low, high)) });
+  }
+    where
+      header_shown : (old new : Option (List ℕ)) → is_some new ≡ is_some old → IfSome old (λ xs. xs ≡ []) → Appends old new (head_text head) → IfSome new (λ o. o ≡ out_text {S = S} head start)
+      header_shown old None tells none w = tt
+      header_shown None (Some o) tells none w = absurd (not_told (sym tells))
+      header_shown (Some z) (Some o) tells none w = w ∙ (ap (λ (xs : List ℕ). xs ++ head_text head) none ∙ sym start_text)
+
+  -- all lines were run: how the input ends decides
+  end_at : (m : ℕ) (l : List ℕ) (s : Run S) (fault : Option End) → (clip_in head m l).fault ≡ fault → onward codec head m l [] s ≡ (record s { left = (clip_in head m l).pictures }, or_end fault Done)
+  end_at m l s fault e = ap (λ (f : Option End). let t : Run S × End = (record s { left = (clip_in head m l).pictures }, or_end f Done) in t) e
+
+  ends_whole : (held : Option (List ℕ)) (t : Run S × End) (q s : Run S) (end : End) → t ≡ (q, end) → q.world ≡ s.world → IfSome held (λ o. o ≡ out_text head s.world) → EndsAs codec head held end t
+  ends_whole None t q s end e same shown = (ap (λ (x : Run S × End). x.1) e, tt)
+  ends_whole (Some o) t q s end e same shown = (ap (λ (x : Run S × End). x.1) e, shown ∙ sym (ap (λ (x : Run S × End). out_text head x.0.world) e ∙ ap (λ w. out_text head w) same))
+
+  pub finish_halts : (m : ℕ) (i left left' held : Option (List ℕ)) (s : Run S) (b : Both S) (why : Stop) → is_some left ≡ is_some i → IsRunning codec head b held s → Told2 i left (λ i l. run_of i ≡ onward codec head m l [] s) → FinishGives head m left left' (Err why) → RunGives codec head lines gives (end_of why) i held
+  finish_halts m i left left' held s b why tells is told f = halts_gives i held why (finished i left why tells told f)
+    where
+      finished : (i left : Option (List ℕ)) (why : Stop) → is_some left ≡ is_some i → Told2 i left (λ i l. run_of i ≡ onward codec head m l [] s) → FinishGives head m left left' (Err why) → Halts codec head gives i held run_of why
+      finished i left (stop.BadScript line) tells told f = absurd f
+      finished i left stop.Out tells told f = absurd f
+      finished i left (stop.Diary fault) tells told f = absurd f
+      finished None left (stop.BadInput place w) tells told f = tt
+      finished None left stop.TooMany tells told f = tt
+      finished None left stop.TooLong tells told f = tt
+      finished None left stop.ReadFault tells told f = tt
+      finished None left stop.Memory tells told f = tt
+      finished (Some j) None why tells told f = absurd (not_told tells)
+      finished (Some j) (Some l) (stop.BadInput place w) tells told f = ends_whole held (run_of j) _ s (BadInput place w) (told ∙ end_at m l s (Some (BadInput place w)) f) refl is.shown
+      finished (Some j) (Some l) stop.TooMany tells told f = ends_whole held (run_of j) _ s TooMany (told ∙ end_at m l s (Some TooMany) f) refl is.shown
+      finished (Some j) (Some l) stop.TooLong tells told f = ends_whole held (run_of j) _ s TooLong (told ∙ end_at m l s (Some TooLong) f) refl is.shown
+      finished (Some j) (Some l) stop.ReadFault tells told f = read_failed held (ap (λ (t : Run S × End). t.0.events) told) is.shown
+        where
+          read_failed : (held : Option (List ℕ)) → (run_of j).0.events ≡ s.events → IfSome held (λ o. o ≡ out_text head s.world) → IfSome held (λ o. ToNextOf codec head (run_of j).0.events o)
+          read_failed None e shown = tt
+          read_failed (Some o) e shown = ([], (s.events, e, inl tt, shown ∙ ap (λ w. out_text head w) is.world))
+      finished (Some j) (Some l) stop.Memory tells told f = memory_lacked held (ap (λ (t : Run S × End). t.0.events) told) is.shown
+        where
+          memory_lacked : (held : Option (List ℕ)) → (run_of j).0.events ≡ s.events → IfSome held (λ o. o ≡ out_text head s.world) → IfSome held (λ o. PartlyOf codec head (run_of j).0.events o)
+          memory_lacked None e shown = tt
+          memory_lacked (Some o) e shown = ([], (s.events, e, shown ∙ ap (λ w. out_text head w) is.world))
+
+  -- the input was read to its end
+  pub done_gives : (m : ℕ) (i left left' held : Option (List ℕ)) (s : Run S) (b : Both S) → is_some left ≡ is_some i → IsRunning codec head b held s → Told2 i left (λ i l. run_of i ≡ onward codec head m l [] s) → FinishGives head m left left' (Ok tt) → IfSome i (λ i. Ends codec head lines Done i held)
+  done_gives m None left left' held s b tells is told f = tt
+  done_gives m (Some j) None left' held s b tells is told f = absurd (not_told tells)
+  done_gives m (Some j) (Some l) left' held s b tells is told f = ends_whole held (run_of j) _ s Done (told ∙ end_at m l s None f.0) refl is.shown
+
+  -- the last line wasn't given
+  pub last_noted : (m : ℕ) (i left held : Option (List ℕ)) (s : Run S) (b : Both S) (why : Stop) → is_some left ≡ is_some i → IsRunning codec head b held s → Told2 i left (λ i l. run_of i ≡ onward codec head m l [] s) → IsNoted gives (Err why) → RunGives codec head lines gives (end_of why) i held
+  last_noted m i left held s b why tells is told n = halts_gives i held why (noted i left why tells told n)
+    where
+      part : (held : Option (List ℕ)) (j : List ℕ) → (run_of j).0.events ≡ s.events → IfSome held (λ o. o ≡ out_text head s.world) → IfSome held (λ o. PartlyOf codec head (run_of j).0.events o)
+      part None j e shown = tt
+      part (Some o) j e shown = ([], (s.events, e, shown ∙ ap (λ w. out_text head w) is.world))
+
+      noted : (i left : Option (List ℕ)) (why : Stop) → is_some left ≡ is_some i → Told2 i left (λ i l. run_of i ≡ onward codec head m l [] s) → IsNoted gives (Err why) → Halts codec head gives i held run_of why
+      noted i left (stop.BadInput place w) tells told n = absurd n
+      noted i left (stop.BadScript line) tells told n = absurd n
+      noted i left stop.TooMany tells told n = absurd n
+      noted i left stop.TooLong tells told n = absurd n
+      noted i left stop.ReadFault tells told n = absurd n
+      noted i left stop.Out tells told n = absurd n
+      noted None left (stop.Diary fault) tells told n = (n, tt)
+      noted (Some j) None (stop.Diary fault) tells told n = absurd (not_told tells)
+      noted (Some j) (Some l) (stop.Diary fault) tells told n = (n, part held j (ap (λ (t : Run S × End). t.0.events) told) is.shown)
+      noted i left stop.Memory tells told n = absurd n
+
+  -- ---- the same by the facts that the calls give
+
+  pub told_start : (m m' : ℕ) (i left : Option (List ℕ)) (all : List Numbered) (s : Run S) → m ≡ most head → all ≡ lines → Told2 i left (λ i l. onward codec head m i all (begun []) ≡ onward codec head m' l [] s) → Told2 i left (λ i l. run_of i ≡ onward codec head m' l [] s)
+  told_start m m' i left all s e same told =
+      subst (λ (ls : List Numbered). Told2 i left (λ i l. onward codec head (most head) i ls (begun []) ≡ onward codec head m' l [] s)) same
+      (subst (λ (k : ℕ). Told2 i left (λ i l. onward codec head k i all (begun []) ≡ onward codec head m' l [] s)) e told)
+
+  pub run_exit : (i o : Option (List ℕ)) (result : Result (Unit {0}) Stop) (why : Stop) → IsErrAnd result (λ e. e ≡ why) → RunGives codec head lines gives (end_of why) i o → RunGives codec head lines gives (run_end result) i o
+  run_exit i o (Ok x) why h p = absurd h
+  run_exit i o (Err e) why h p = subst (λ (s : Stop). RunGives codec head lines gives (end_of s) i o) (sym h) p
+
+  -- a line stopped the run
+  pub lines_gives : (m : ℕ) (i o : Option (List ℕ)) (all : List Numbered) (result : Result (Unit {0}) Stop) (why : Stop) → m ≡ most head → all ≡ lines → IsErrAnd result (λ e. e ≡ why) → Halts codec head gives i o (λ l. onward codec head m l all (begun [])) why → RunGives codec head lines gives (run_end result) i o
+  lines_gives m i o all result why e same h p =
+      run_exit i o result why h
+      (halts_gives i o why (subst (λ (ls : List Numbered). Halts codec head gives i o (λ l. onward codec head (most head) l ls (begun [])) why) same (subst (λ (k : ℕ). Halts codec head gives i o (λ l. onward codec head k l all (begun [])) why) e p)))
+
+  -- the rest of the input stopped the run
+  pub finish_gives : (h : Head) (m m' : ℕ) (i left left' held : Option (List ℕ)) (all : List Numbered) (b : Both S) (d u : Marks) (result : Result (Unit {0}) Stop) (why : Stop) → h ≡ head → m ≡ most head → all ≡ lines → is_some left ≡ is_some i
+      → ((s : Run S) × (IsAt codec head b d u held s × Told2 i left (λ i l. onward codec head m i all (begun []) ≡ onward codec head m' l [] s))) → IsErrAnd result (λ e. e ≡ why) → FinishGives h m' left left' (Err why) → RunGives codec head lines gives (run_end result) i held
+  finish_gives h m m' i left left' held all b d u result why same_head e same tells s is f =
+      run_exit i held result why is
+      (finish_halts m' i left left' held s.0 b why tells s.1.0.running (told_start m m' i left all s.0 e same s.1.1) (subst (λ x. FinishGives x m' left left' (Err why)) same_head f))
+
+  pub note_gives : (h : Head) (m m' : ℕ) (i left left' held : Option (List ℕ)) (all : List Numbered) (b : Both S) (d u : Marks) (result : Result (Unit {0}) Stop) → h ≡ head → m ≡ most head → all ≡ lines → is_some left ≡ is_some i
+      → ((s : Run S) × (IsAt codec head b d u held s × Told2 i left (λ i l. onward codec head m i all (begun []) ≡ onward codec head m' l [] s))) → FinishGives h m' left left' (Ok tt) → IsNoted gives result → RunGives codec head lines gives (run_end result) i held
+  note_gives h m m' i left left' held all b d u (Ok x) same_head e same tells s f n =
+      done_gives m' i left left' held s.0 b tells s.1.0.running (told_start m m' i left all s.0 e same s.1.1) (subst (λ x. FinishGives x m' left left' (Ok tt)) same_head f)
+  note_gives h m m' i left left' held all b d u (Err why) same_head e same tells s f n = last_noted m' i left held s.0 b why tells s.1.0.running (told_start m m' i left all s.0 e same s.1.1) n
+
+-- ---- causes
+
+pub read_cause : (a b : ℕ) (why : Stop) → HasCause {A = Result (Unit {0}) Stop} (Err stop.ReadFault) a b (Err why) → HasCause run.ReadFault a b (end_of why)
+read_cause a b why h = record { later = h.later; rose = λ e. h.rose (ap (λ (s : Stop). Err s) (is_read why e)) }
+  where
+    is_read : (why : Stop) → end_of why ≡ run.ReadFault → why ≡ stop.ReadFault
+    is_read (stop.BadInput place w) e = absurd cc
+    is_read (stop.BadScript line) e = absurd cc
+    is_read stop.TooMany e = absurd cc
+    is_read stop.TooLong e = absurd cc
+    is_read stop.ReadFault e = refl
+    is_read stop.Out e = absurd cc
+    is_read (stop.Diary diary.Failed) e = absurd cc
+    is_read (stop.Diary diary.TooLong) e = absurd cc
+    is_read (stop.Diary diary.Memory) e = absurd cc
+    is_read stop.Memory e = absurd cc
+
+pub out_cause : (a b : ℕ) (why : Stop) → HasCause {A = Result (Unit {0}) Stop} (Err stop.Out) a b (Err why) → HasCause (run.WriteFault Out) a b (end_of why)
+out_cause a b why h = record { later = h.later; rose = λ e. h.rose (ap (λ (s : Stop). Err s) (is_out why e)) }
+  where
+    is_out : (why : Stop) → end_of why ≡ run.WriteFault Out → why ≡ stop.Out
+    is_out (stop.BadInput place w) e = absurd cc
+    is_out (stop.BadScript line) e = absurd cc
+    is_out stop.TooMany e = absurd cc
+    is_out stop.TooLong e = absurd cc
+    is_out stop.ReadFault e = absurd cc
+    is_out stop.Out e = refl
+    is_out (stop.Diary diary.Failed) e = absurd cc
+    is_out (stop.Diary diary.TooLong) e = absurd cc
+    is_out (stop.Diary diary.Memory) e = absurd cc
+    is_out stop.Memory e = absurd cc
+
+pub journal_cause : (a b : ℕ) (why : Stop) → HasCause {A = Result (Unit {0}) Stop} (Err (stop.Diary diary.Failed)) a b (Err why) → HasCause (run.WriteFault Journal) a b (end_of why)
+journal_cause a b why h = record { later = h.later; rose = λ e. h.rose (ap (λ (s : Stop). Err s) (is_journal why e)) }
+  where
+    is_journal : (why : Stop) → end_of why ≡ run.WriteFault Journal → why ≡ stop.Diary diary.Failed
+    is_journal (stop.BadInput place w) e = absurd cc
+    is_journal (stop.BadScript line) e = absurd cc
+    is_journal stop.TooMany e = absurd cc
+    is_journal stop.TooLong e = absurd cc
+    is_journal stop.ReadFault e = absurd cc
+    is_journal stop.Out e = absurd cc
+    is_journal (stop.Diary diary.Failed) e = refl
+    is_journal (stop.Diary diary.TooLong) e = absurd cc
+    is_journal (stop.Diary diary.Memory) e = absurd cc
+    is_journal stop.Memory e = absurd cc
+
+pub end_at_stop : (why : Stop) (left : Option (List ℕ)) → AtEnd (end_of why) left
+end_at_stop (stop.BadInput place w) left = tt
+end_at_stop (stop.BadScript line) left = tt
+end_at_stop stop.TooMany left = tt
+end_at_stop stop.TooLong left = tt
+end_at_stop stop.ReadFault left = tt
+end_at_stop stop.Out left = tt
+end_at_stop (stop.Diary diary.Failed) left = tt
+end_at_stop (stop.Diary diary.TooLong) left = tt
+end_at_stop (stop.Diary diary.Memory) left = tt
+end_at_stop stop.Memory left = tt
+
+-- ---- exits
+
+pub if_err : {X : Type 0} (P : Stop → Type 0) (result : Result X Stop) (why : Stop) → IsErrAnd result (λ e. e ≡ why) → P why → IfErr result P
+if_err P (Ok x) why h p = absurd h
+if_err P (Err e) why h p = subst P (sym h) p
+
+pub on_ok : {X : Type 0} (A : Type 0) (result : Result X Stop) → A → OnOk result A
+on_ok A (Ok x) a = a
+on_ok A (Err e) a = tt
+
+pub open_stops : {S : Type 0} (codec : Coding S) (head : Head) (lines : List Numbered) (gives : DiaryFault → Bool) (i old new : Option (List ℕ)) (why : Stop) → is_some new ≡ is_some old → IfSome old (λ xs. xs ≡ []) → Opened old new (head_text head) (Err why) → RunGives codec head lines gives (end_of why) i new
+open_stops codec head lines gives i old new (stop.BadInput place w) tells none p = absurd p
+open_stops codec head lines gives i old new (stop.BadScript line) tells none p = absurd p
+open_stops codec head lines gives i old new stop.TooMany tells none p = absurd p
+open_stops codec head lines gives i old new stop.TooLong tells none p = absurd p
+open_stops codec head lines gives i old new stop.ReadFault tells none p = absurd p
+open_stops codec head lines gives i old new stop.Out tells none p = header_cut codec head lines gives i old new tells none p
+open_stops codec head lines gives i old new (stop.Diary fault) tells none p = absurd p
+open_stops codec head lines gives i old new stop.Memory tells none p = absurd p

@@ -1,0 +1,88 @@
+-- What a run gives, by how it ends: of the bytes that its input had left, and of those that its output then holds.
+use Rattle.std.specs.Prelude.{◌≡◌, ◌⊎◌, ℕ, List, [], ◌∷◌, ◌++◌, take, Bool, true, Option, IfSome}
+use Rattle.sal_base.specs.declared.picture.Picture.{Picture}
+use Rattle.sal_base.specs.Lists.{Each}
+use Rattle.sal_codec.specs.Coding.{Coding}
+use Rattle.sal_y4m.specs.declared.head.Head.{Head}
+use Rattle.sal_script.specs.Numbered.{Numbered}
+use Rattle.sal_world.specs.World.{Event, Next, after}
+use Rattle.sal_world.specs.Promises.{Names, Holds}
+use Rattle.sal_run.specs.declared.diary.DiaryFault.{DiaryFault}
+use Rattle.sal_run.specs.declared.diary.DiaryFault.TheVariants as diary
+use Rattle.sal_run.specs.declared.end.Which.TheVariants.{Out, Journal, Pictures, Script}
+use Rattle.sal_run.specs.declared.end.RunEnd.{RunEnd}
+use Rattle.sal_run.specs.declared.end.RunEnd.TheVariants as run
+use Rattle.sal_run.specs.Clip.{End, Done, BadInput, BadScript, TooMany, TooLong}
+use Rattle.sal_run.specs.Loop.{session_of, out_text, clip_run}
+
+-- any event but the start of a picture
+abbrev pub IsNoNext : Event → Type 0
+IsNoNext (Next picture) = ⊥
+IsNoNext _ = Unit {0}
+
+-- no event that came after these starts a picture, or the next one does
+abbrev pub IsAtNext : List Event → Type 0
+IsAtNext later = Each IsNoNext later ⊎ ((picture : Picture) × ((more : List Event) × (later ≡ more ++ Next picture ∷ [])))
+
+module _ {S : Type 0} (codec : Coding S) (head : Head) (lines : List Numbered) where
+  -- the run ended so, and the output holds the header and all pictures shown
+  abbrev pub Ends : End → List ℕ → Option (List ℕ) → Type 0
+  Ends end i out = ((clip_run codec head i lines).1 ≡ end) × IfSome out (λ o. o ≡ out_text head (clip_run codec head i lines).0.world)
+
+  -- these events, the newest first, are the last ones and those before them of the run
+  abbrev pub AreEvents : List ℕ → List Event → List Event → Type 0
+  AreEvents i later before = (clip_run codec head i lines).0.events ≡ later ++ before
+
+  -- what the output holds after these events
+  abbrev pub text_after : List Event → List ℕ
+  text_after events = out_text head (after codec (session_of head) events)
+
+  -- the output holds the header and the pictures shown by the events before
+  abbrev pub Partly : List ℕ → List ℕ → Type 0
+  Partly i o = (later : List Event) × ((before : List Event) × AreEvents i later before × (o ≡ text_after before))
+
+  -- the same, of the events before a picture is started, or after which none is
+  abbrev pub UpToNext : List ℕ → List ℕ → Type 0
+  UpToNext i o = (later : List Event) × ((before : List Event) × AreEvents i later before × IsAtNext later × (o ≡ text_after before))
+
+  -- the output holds a front of that
+  abbrev pub Cut : List ℕ → List ℕ → Type 0
+  Cut i o = (n : ℕ) × ((whole : List ℕ) × Partly i whole × (o ≡ take n whole))
+
+  -- the same, or nothing
+  abbrev pub PartlyOrNot : List ℕ → List ℕ → Type 0
+  PartlyOrNot i o = (o ≡ []) ⊎ Partly i o
+
+  -- these hold where both are told
+  abbrev pub ToldBoth : Option (List ℕ) → Option (List ℕ) → (List ℕ → List ℕ → Type 0) → Type 0
+  ToldBoth input out P = IfSome input (λ i. IfSome out (P i))
+
+  -- the diary gave this fault, and the output holds what the events before make it hold, or nothing
+  abbrev pub DiaryFailed : (DiaryFault → Bool) → DiaryFault → Option (List ℕ) → Option (List ℕ) → Type 0
+  DiaryFailed gives fault i o = (gives fault ≡ true) × ToldBoth i o PartlyOrNot
+
+  -- what a run gives with a diary that gives these faults
+  abbrev pub RunGives : (DiaryFault → Bool) → RunEnd → Option (List ℕ) → Option (List ℕ) → Type 0
+  RunGives gives run.Ok i o = IfSome i (λ i. Ends Done i o)
+  RunGives gives (run.BadInput place why) i o = IfSome i (λ i. Ends (BadInput place why) i o)
+  RunGives gives (run.BadScript line) i o = IfSome i (λ i. Ends (BadScript line) i o)
+  RunGives gives run.TooMany i o = IfSome i (λ i. Ends TooMany i o)
+  RunGives gives run.TooLong i o = IfSome i (λ i. Ends TooLong i o) ⊎ DiaryFailed gives diary.TooLong i o
+  RunGives gives run.ReadFault i o = ToldBoth i o UpToNext
+  RunGives gives (run.WriteFault Out) i o = ToldBoth i o Cut
+  RunGives gives (run.WriteFault Journal) i o = DiaryFailed gives diary.Failed i o
+  RunGives gives (run.WriteFault Pictures) i o = ⊥
+  RunGives gives (run.WriteFault Script) i o = ⊥
+  RunGives gives run.Memory i o = ToldBoth i o PartlyOrNot
+
+  -- the world of the run is that after its events, and after any of them the promises of both ends hold, where names differ
+  pub record KeepsPromises (i : List ℕ) : Type 0 where
+    pub world : (clip_run codec head i lines).0.world ≡ after codec (session_of head) (clip_run codec head i lines).0.events
+    pub holds :
+        (later before : List Event) → AreEvents i later before → Names codec (after codec (session_of head) before)
+        → Holds codec (session_of head) (after codec (session_of head) before)
+
+-- what was read is read to its end where all went well
+abbrev pub AtEnd : RunEnd → Option (List ℕ) → Type 0
+AtEnd run.Ok left = IfSome left (λ xs. xs ≡ [])
+AtEnd _ left = Unit {0}

@@ -1,0 +1,11 @@
+pub mod Front
+pub mod Clip
+pub mod Loop
+pub mod Ends
+pub mod Marks
+pub mod Named
+pub mod Stops
+pub mod Running
+pub mod Turns
+pub mod Walk
+pub mod Input

@@ -1,0 +1,33 @@
+//! How a run ends.
+
+use sal_y4m::Why;
+
+/// What a fault is about.
+#[derive(Clone, Copy, Debug, PartialEq, Eq)]
+pub enum Which {
+    Pictures,
+    Script,
+    Out,
+    Journal,
+}
+
+/// How a run ends.
+#[derive(Clone, Copy, Debug, PartialEq, Eq)]
+pub enum RunEnd {
+    /// All lines were run, and the input was read to its end.
+    Ok,
+    /// The input isn't in the grammar: at this byte, for this reason.
+    BadInput(u64, Why),
+    /// This line of the script, counted from 1, needs a picture and none is left, or names a number that wasn't sent.
+    BadScript(u32),
+    /// The input failed.
+    ReadFault,
+    /// The output or the journal failed.
+    WriteFault(Which),
+    /// The samples of the input, or the journal's text, are more than a session takes.
+    TooLong,
+    /// The input has more pictures than a session takes.
+    TooMany,
+    /// There is no memory.
+    Memory,
+}

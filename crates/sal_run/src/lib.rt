@@ -1,0 +1,20 @@
+//! The run of a script over a clip: both ends of a session in one world.
+#![tactic(auto)]
+
+mod diary;
+mod end;
+mod events;
+mod input;
+mod laws;
+mod lines;
+mod named;
+mod play;
+mod run;
+mod script;
+mod stage;
+mod stop;
+
+pub use diary::{CallKind, Diary, DiaryFault, Line, NoDiary, ReportSize};
+pub use end::{RunEnd, Which};
+pub use laws::every_run_keeps_its_promises;
+pub use run::run_alone;
