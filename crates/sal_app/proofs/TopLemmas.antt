@@ -1,5 +1,5 @@
 -- What the top call answers, from what the calls below gave.
-use Rattle.std.proofs.Common.{◌≡◌, ◌≢◌, ℕ, ◌<◌, ◌≤◌, inl, inr, List, [], ◌∷◌, ◌++◌, length, map, get_or, Option, Some, append_assoc, refl, sym, ap, ◌∙◌, subst, arith}
+use Rattle.std.proofs.Common.{◌≡◌, ◌≢◌, ℕ, ◌<◌, ◌≤◌, inl, inr, List, [], ◌∷◌, ◌++◌, length, map, get_or, Option, Some, IfSome, append_assoc, refl, sym, ap, ◌∙◌, subst, arith}
 use Rattle.std.specs.Prelude.{Result, Ok, Err, ◌⊎◌, codes}
 use Rattle.std.specs.List.{AllByRecursion}
 use Rattle.sal_io.specs.Past.{Past}
@@ -13,10 +13,17 @@ use Rattle.sal_app.specs.declared.status.Status.{Status}
 use Rattle.sal_app.specs.declared.status.Status.TheVariants as status
 use Rattle.sal_app.specs.declared.status.Stop.{Stop}
 use Rattle.sal_app.specs.declared.status.Stop.TheVariants as stop
-use Rattle.sal_app.specs.Run.{IsNothing}
-use Rattle.sal_app.specs.Ends.{RunGives, AtEnd, EndsSo, Ending, UpToNextOrNot}
-use Rattle.sal_app.specs.Loop.{End, Done, BadInput, BadScript, TooMany, loop_end}
-use Rattle.sal_app.specs.Top.{Files, Shut, Of, LoopAnswers, StatusOf, Unopened, IsLoop, Answers, IsComplete, IsQuiet, status_of, faults_of}
+use Rattle.sal_codec.specs.Plain.{plain}
+use Rattle.sal_y4m.specs.declared.head.Head.{Head}
+use Rattle.sal_y4m.specs.Grammar.{IsNarrow, header_at}
+use Rattle.sal_y4m.proofs.HeaderLemmas.{header_narrow}
+use Rattle.sal_script.specs.Numbered.{Numbered}
+use Rattle.sal_run.specs.Clip.{End, Done, BadInput, BadScript, TooMany, TooLong}
+use Rattle.sal_run.specs.Loop.{loop_end}
+use Rattle.sal_run.specs.Ends.{KeepsPromises}
+use Rattle.sal_app.specs.Stops.{IsNothing}
+use Rattle.sal_app.specs.Ends.{RunGives, AtEnd, Ends, UpToNextOrNot}
+use Rattle.sal_app.specs.Top.{Files, Shut, Of, LoopAnswers, StatusOf, Unopened, IsLoop, Answers, IsComplete, IsQuiet, Promises, status_of, faults_of}
 
 four : {X : Type 0} (ws : List X) (a b c d : X) → 4 ≤ length ws → length ws < 5 → a ≡ get_or ws 0 a → b ≡ get_or ws 1 b → c ≡ get_or ws 2 c → d ≡ get_or ws 3 d → ws ≡ a ∷ b ∷ c ∷ d ∷ []
 four [] a b c d lo hi p q r s = absurd (omega arith)
@@ -55,24 +62,26 @@ from_zero a b e r = subst (λ (n : ℕ). Rose n b) e r
 
 -- the status of a run that ended
 pub answered : (input script output : List ℕ) (holds : List ℕ → Option (List ℕ)) (before after : List Past) (faults faults' : ℕ) (end : Result (Unit {0}) Stop) (s : Status) (f : Files)
-    → Shut input script output holds before after f → StatusOf end s → RunGives end (holds input) (holds script) f.held → Ending end (holds input) (holds script) → AtEnd end f.input_left → AtEnd end f.script_left
+    → Shut input script output holds before after f → StatusOf end s → RunGives plain end (holds input) (holds script) f.held → AtEnd end f.input_left → AtEnd end f.script_left
     → HasCause (Err stop.InputFault) 0 f.input_faults end → HasCause (Err stop.ScriptFault) 0 f.script_faults end → HasCause (Err stop.WriteFault) 0 f.out_faults end
     → LoopAnswers input script output holds before after faults faults' s
-answered input script output holds before after faults faults' (Ok x) s f shut said gives ending at_end script_end p q r =
-    subst (LoopAnswers input script output holds before after faults faults') (sym said) (f, shut, ending, gives, at_end, script_end)
-answered input script output holds before after faults faults' (Err (stop.BadInput place why)) s f shut said gives ending at_end script_end p q r =
-    subst (LoopAnswers input script output holds before after faults faults') (sym said) (refl, (f, shut, ending, gives))
-answered input script output holds before after faults faults' (Err (stop.BadScript line)) s f shut said gives ending at_end script_end p q r =
-    subst (LoopAnswers input script output holds before after faults faults') (sym said) (f, shut, ending, gives)
-answered input script output holds before after faults faults' (Err stop.TooMany) s f shut said gives ending at_end script_end p q r =
-    subst (LoopAnswers input script output holds before after faults faults') (sym said) (f, shut, ending, gives)
-answered input script output holds before after faults faults' (Err stop.InputFault) s f shut said gives ending at_end script_end p q r =
+answered input script output holds before after faults faults' (Ok x) s f shut said gives at_end script_end p q r =
+    subst (LoopAnswers input script output holds before after faults faults') (sym said) (f, shut, gives, at_end, script_end)
+answered input script output holds before after faults faults' (Err (stop.BadInput place why)) s f shut said gives at_end script_end p q r =
+    subst (LoopAnswers input script output holds before after faults faults') (sym said) (refl, (f, shut, gives))
+answered input script output holds before after faults faults' (Err (stop.BadScript line)) s f shut said gives at_end script_end p q r =
+    subst (LoopAnswers input script output holds before after faults faults') (sym said) (f, shut, gives)
+answered input script output holds before after faults faults' (Err stop.TooMany) s f shut said gives at_end script_end p q r =
+    subst (LoopAnswers input script output holds before after faults faults') (sym said) (f, shut, gives)
+answered input script output holds before after faults faults' (Err stop.TooLong) s f shut said gives at_end script_end p q r =
+    subst (LoopAnswers input script output holds before after faults faults') (sym said) (f, shut, gives)
+answered input script output holds before after faults faults' (Err stop.InputFault) s f shut said gives at_end script_end p q r =
     subst (LoopAnswers input script output holds before after faults faults') (sym said) (f, shut, inl (refl, p.rose refl, gives))
-answered input script output holds before after faults faults' (Err stop.ScriptFault) s f shut said gives ending at_end script_end p q r =
+answered input script output holds before after faults faults' (Err stop.ScriptFault) s f shut said gives at_end script_end p q r =
     subst (LoopAnswers input script output holds before after faults faults') (sym said) (f, shut, inr (refl, q.rose refl, gives))
-answered input script output holds before after faults faults' (Err stop.WriteFault) s f shut said gives ending at_end script_end p q r =
+answered input script output holds before after faults faults' (Err stop.WriteFault) s f shut said gives at_end script_end p q r =
     subst (LoopAnswers input script output holds before after faults faults') (sym said) (f, shut, refl, r.rose refl, gives)
-answered input script output holds before after faults faults' (Err stop.Memory) s f shut said gives ending at_end script_end p q r =
+answered input script output holds before after faults faults' (Err stop.Memory) s f shut said gives at_end script_end p q r =
     subst (LoopAnswers input script output holds before after faults faults') (sym said) (inr (inr (inr (f, shut, gives))))
 
 -- IN wasn't opened
@@ -138,11 +147,11 @@ pub run_answered : (input script output : List ℕ) (holds holds1 : List ℕ →
     → StatusOf end s → IsOpened input (holds input) name had left n → IsOpened script (holds1 script) sname shad sleft m → IsCreated output oname held k → holds1 ≡ holds
     → p1 ≡ p0 → p2 ≡ p1 → p3 ≡ p2 → p4 ≡ p3 ++ In name' had' left' n' ∷ [] → p5 ≡ p4 ++ In sname' shad' sleft' m' ∷ [] → p6 ≡ p5 ++ Out oname' held' k' ∷ []
     → name' ≡ name → had' ≡ had → sname' ≡ sname → shad' ≡ shad → oname' ≡ oname
-    → RunGives end left sleft held' → Ending end left sleft → AtEnd end left' → AtEnd end sleft'
+    → RunGives plain end left sleft held' → AtEnd end left' → AtEnd end sleft'
     → HasCause (Err stop.InputFault) n n' end → HasCause (Err stop.ScriptFault) m m' end → HasCause (Err stop.WriteFault) k k' end
     → LoopAnswers input script output holds p0 p6 f0 f6 s
 run_answered input script output holds holds1 p0 p1 p2 p3 p4 p5 p6 f0 f6 end s name name' sname sname' oname oname' had had' left left' shad shad' sleft sleft' held held' n n' m m' k k'
-    said is sis cis hs e1 e2 e3 e4 e5 e6 na ha sna sha ona gives ending at_end script_end c1 c2 c3 =
+    said is sis cis hs e1 e2 e3 e4 e5 e6 na ha sna sha ona gives at_end script_end c1 c2 c3 =
     let sis' : IsOpened script (holds script) sname shad sleft m = subst (λ (h : List ℕ → Option (List ℕ)). IsOpened script (h script) sname shad sleft m) hs sis in
     let files : Files = record { input_left = left'; input_faults = n'; script_left = sleft'; script_faults = m'; held = held'; out_faults = k' } in
     let shut : Shut input script output holds p0 p6 files =
@@ -150,11 +159,9 @@ run_answered input script output holds holds1 p0 p1 p2 p3 p4 p5 p6 f0 f6 end s n
     ∙ ap (λ (x : Past). ((p0 ++ x ∷ []) ++ In sname' shad' sleft' m' ∷ []) ++ Out oname' held' k' ∷ []) (in_past input (holds input) name name' had had' left' n' na is.name_is ha is.had_is)
     ∙ ap (λ (x : Past). ((p0 ++ In input (holds input) left' n' ∷ []) ++ x ∷ []) ++ Out oname' held' k' ∷ []) (in_past script (holds script) sname sname' shad shad' sleft' m' sna sis'.name_is sha sis'.had_is)
     ∙ ap (λ (x : Past). ((p0 ++ In input (holds input) left' n' ∷ []) ++ In script (holds script) sleft' m' ∷ []) ++ x ∷ []) (out_past output oname oname' held' k' ona cis.name_is) in
-    let told : RunGives end (holds input) (holds script) held' =
-    subst (λ (o : Option (List ℕ)). RunGives end o (holds script) held') is.left_is (subst (λ (o : Option (List ℕ)). RunGives end left o held') sis'.left_is gives) in
-    let ended : Ending end (holds input) (holds script) =
-    subst (λ (o : Option (List ℕ)). Ending end o (holds script)) is.left_is (subst (λ (o : Option (List ℕ)). Ending end left o) sis'.left_is ending) in
-    answered input script output holds p0 p6 f0 f6 end s files shut said told ended at_end script_end
+    let told : RunGives plain end (holds input) (holds script) held' =
+    subst (λ (o : Option (List ℕ)). RunGives plain end o (holds script) held') is.left_is (subst (λ (o : Option (List ℕ)). RunGives plain end left o held') sis'.left_is gives) in
+    answered input script output holds p0 p6 f0 f6 end s files shut said told at_end script_end
     (cause_zero (Err stop.InputFault) n n' end is.no_faults c1) (cause_zero (Err stop.ScriptFault) m m' end sis'.no_faults c2) (cause_zero (Err stop.WriteFault) k k' end cis.no_faults c3)
 
 -- ---- completeness
@@ -178,8 +185,9 @@ words_any (a ∷ b ∷ c ∷ d ∷ e ∷ words) P p = p
 three : (before : List Past) (a b c : Past) → ((before ++ a ∷ []) ++ b ∷ []) ++ c ∷ [] ≡ before ++ (a ∷ b ∷ c ∷ [])
 three before a b c = append_assoc (before ++ a ∷ []) (b ∷ []) (c ∷ []) ∙ append_assoc before (a ∷ []) (b ∷ c ∷ [])
 
-told_end : (i s : List ℕ) (input script : Option (List ℕ)) (end : End) → input ≡ Some i → script ≡ Some s → EndsSo end input script → loop_end i s ≡ end
-told_end i s input script end p q told = subst (λ (x : Option (List ℕ)). EndsSo end (Some i) x) q (subst (λ (x : Option (List ℕ)). EndsSo end x script) p told)
+told_end : (i s : List ℕ) (input script out : Option (List ℕ)) (end : End) → input ≡ Some i → script ≡ Some s → Ends plain end input script out → loop_end plain i s ≡ end
+told_end i s input script out end p q told =
+    (subst (λ (x : Option (List ℕ)). Ends plain end (Some i) x out) q (subst (λ (x : Option (List ℕ)). Ends plain end x script out) p told)).0
 
 not_risen : (n : ℕ) → n ≡ 0 → Rose 0 n → ⊥
 not_risen n e r = omega (arith, r, e)
@@ -192,29 +200,31 @@ shut_news : (input script output : List ℕ) (holds : List ℕ → Option (List 
 shut_news input script output holds before after f shut = shut ∙ three before _ _ _
 
 abbrev pub Finds : List ℕ → List ℕ → Status → Type 0
-Finds i s st = (st ≡ status_of (loop_end i s)) ⊎ (st ≡ status.Memory)
+Finds i s st = (st ≡ status_of (loop_end plain i s)) ⊎ (st ≡ status.Memory)
 
-ended_finds : (i s : List ℕ) (input script : Option (List ℕ)) (end : End) (st : Status) → input ≡ Some i → script ≡ Some s → EndsSo end input script → st ≡ status_of end → Finds i s st
-ended_finds i s input script end st p q so e = inl (e ∙ ap status_of (sym (told_end i s input script end p q so)))
+ended_finds : (i s : List ℕ) (input script out : Option (List ℕ)) (end : End) (st : Status) → input ≡ Some i → script ≡ Some s → Ends plain end input script out → st ≡ status_of end → Finds i s st
+ended_finds i s input script out end st p q so e = inl (e ∙ ap status_of (sym (told_end i s input script out end p q so)))
 
 complete_loop : (input script output : List ℕ) (holds : List ℕ → Option (List ℕ)) (before after : List Past) (faults faults' : ℕ) (i s : List ℕ) (st : Status) → holds input ≡ Some i → holds script ≡ Some s
     → IsQuiet before after faults faults' → LoopAnswers input script output holds before after faults faults' st → Finds i s st
 complete_loop input script output holds before after faults faults' i s status.Ok p q quiet a =
-    ended_finds i s (holds input) (holds script) Done status.Ok p q a.2 refl
+    ended_finds i s (holds input) (holds script) a.0.held Done status.Ok p q a.2 refl
 complete_loop input script output holds before after faults faults' i s status.Usage p q quiet a = absurd a
 complete_loop input script output holds before after faults faults' i s (status.BadInput name place why) p q quiet a =
-    ended_finds i s (holds input) (holds script) (BadInput place why) (status.BadInput name place why) p q a.1.2 (ap (λ (n : Named). status.BadInput n place why) a.0)
+    ended_finds i s (holds input) (holds script) a.1.0.held (BadInput place why) (status.BadInput name place why) p q a.1.2 (ap (λ (n : Named). status.BadInput n place why) a.0)
 complete_loop input script output holds before after faults faults' i s (status.BadScript line) p q quiet a =
-    ended_finds i s (holds input) (holds script) (BadScript line) (status.BadScript line) p q a.2 refl
+    ended_finds i s (holds input) (holds script) a.0.held (BadScript line) (status.BadScript line) p q a.2 refl
+complete_loop input script output holds before after faults faults' i s status.TooLong p q quiet a =
+    ended_finds i s (holds input) (holds script) a.0.held TooLong status.TooLong p q a.2 refl
 complete_loop input script output holds before after faults faults' i s status.TooMany p q quiet a =
-    ended_finds i s (holds input) (holds script) TooMany status.TooMany p q a.2 refl
+    ended_finds i s (holds input) (holds script) a.0.held TooMany status.TooMany p q a.2 refl
 complete_loop input script output holds before after faults faults' i s (status.ReadFault name) p q quiet a =
     let f = a.0 in
     let still = quiet.files_quiet (news_of input script output holds f) (shut_news input script output holds before after f a.1) in
     absurd (read_risen name f still a.2)
   where
     read_risen : (name : Named) (f : Files) → AllByRecursion (λ past. faults_of past ≡ 0) (news_of input script output holds f)
-        → ((name ≡ Word 1) × Rose 0 f.input_faults × Of input script output holds before after f UpToNextOrNot) ⊎ ((name ≡ Word 2) × Rose 0 f.script_faults × IsNothing f.held) → ⊥
+        → ((name ≡ Word 1) × Rose 0 f.input_faults × Of input script output holds before after f (UpToNextOrNot plain)) ⊎ ((name ≡ Word 2) × Rose 0 f.script_faults × IsNothing f.held) → ⊥
     read_risen name f still (inl x) = not_risen f.input_faults still.0 x.1
     read_risen name f still (inr x) = not_risen f.script_faults still.1.0 x.1
 complete_loop input script output holds before after faults faults' i s (status.WriteFault name) p q quiet a =
@@ -229,3 +239,11 @@ complete words holds before after faults faults' st (inl a) i s said quiet =
     words_both words (λ input script output. LoopAnswers input script output holds before after faults faults' st) (λ input script output. (holds input ≡ Some i) × (holds script ≡ Some s)) (Finds i s st) a said
     (λ input script output answer known. complete_loop input script output holds before after faults faults' i s st known.0 known.1 quiet answer)
 complete words holds before after faults faults' st (inr a) i s said quiet = absurd (a.0 (words_any words _ said))
+
+-- ---- the promises of both ends
+
+narrow_head : (i body : List ℕ) (head : Head) → header_at i ≡ Some (head, body) → IsNarrow head
+narrow_head i body head header = subst (λ (found : Option (Head × List ℕ)). IfSome found (λ (x : Head × List ℕ). IsNarrow x.0)) header (header_narrow i)
+
+pub promised : (words : List (List ℕ)) (holds : List ℕ → Option (List ℕ)) → ((head : Head) (lines : List Numbered) (bytes : List ℕ) → IsNarrow head → KeepsPromises plain head lines bytes) → Promises words holds
+promised words holds law i s said head lines body header read = law head lines body (narrow_head i body head header)

@@ -1,11 +1,4 @@
-pub mod Front
-pub mod Key
-pub mod Script
-pub mod Session
-pub mod Shown
-pub mod Loop
 pub mod Numbers
-pub mod Run
-pub mod Reads
+pub mod Stops
 pub mod Ends
 pub mod Top

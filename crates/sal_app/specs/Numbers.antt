@@ -11,5 +11,6 @@ number_of (status.BadScript line) = 4
 number_of (status.ReadFault name) = 6
 number_of (status.WriteFault name) = 7
 number_of (status.OpenFault name) = 8
+number_of status.TooLong = 11
 number_of status.TooMany = 12
 number_of status.Memory = 15

@@ -12,9 +12,16 @@ use Rattle.sal_app.specs.declared.status.Stop.{Stop}
 use Rattle.sal_app.specs.declared.status.Stop.TheVariants as stop
 use Rattle.sal_io.specs.declared.answers.ShelfFault.{ShelfFault}
 use Rattle.sal_io.specs.declared.answers.ShelfFault.TheVariants as shelf
-use Rattle.sal_app.specs.Loop.{End, Done, BadInput, BadScript, TooMany, loop_end}
-use Rattle.sal_app.specs.Ends.{Told, Ends, EndsSo, SoFarOrNot, UpToNextOrNot, CutOff}
-use Rattle.sal_app.specs.Run.{IsNothing}
+use Rattle.sal_codec.specs.Plain.{plain}
+use Rattle.sal_y4m.specs.declared.head.Head.{Head}
+use Rattle.sal_y4m.specs.Grammar.{header_at}
+use Rattle.sal_script.specs.Numbered.{Numbered}
+use Rattle.sal_script.specs.Script.{script_of}
+use Rattle.sal_run.specs.Clip.{End, Done, BadInput, BadScript, TooMany, TooLong}
+use Rattle.sal_run.specs.Loop.{loop_end}
+use Rattle.sal_run.specs.Ends.{KeepsPromises}
+use Rattle.sal_app.specs.Stops.{IsNothing}
+use Rattle.sal_app.specs.Ends.{Told, Ends, SoFarOrNot, UpToNextOrNot, CutOff}
 
 -- what is known of IN, SCRIPT and OUT as they were shut: what the sources had left, what the sink holds, and the counts
 -- of faults
@@ -35,9 +42,13 @@ module _ (input script output : List ℕ) (holds : List ℕ → Option (List ℕ
   abbrev pub Of : Files → (List ℕ → List ℕ → List ℕ → Type 0) → Type 0
   Of f P = Told (holds input) (holds script) f.held P
 
-  -- all were opened and shut, the run ended so, and OUT holds what it then holds
+  -- the run ended so, and OUT holds what it then holds
+  abbrev pub EndedWith : Files → End → Type 0
+  EndedWith f end = Ends plain end (holds input) (holds script) f.held
+
+  -- the same, and all were opened and shut
   abbrev pub Ended : End → Type 0
-  Ended end = (f : Files) × Shut f × EndsSo end (holds input) (holds script) × Of f (Ends end)
+  Ended end = (f : Files) × Shut f × EndedWith f end
 
   -- none was opened; or IN alone, from which nothing was read; or IN and SCRIPT
   abbrev pub ShutNone : Type 0
@@ -57,19 +68,21 @@ module _ (input script output : List ℕ) (holds : List ℕ → Option (List ℕ
   abbrev pub LoopAnswers : ℕ → ℕ → Status → Type 0
   -- all lines were run, and IN and SCRIPT were read to their ends
   LoopAnswers faults faults' status.Ok =
-      (f : Files) × Shut f × EndsSo Done (holds input) (holds script) × Of f (Ends Done) × IsNothing f.input_left × IsNothing f.script_left
+      (f : Files) × Shut f × EndedWith f Done × IsNothing f.input_left × IsNothing f.script_left
   LoopAnswers faults faults' status.Usage = ⊥
   LoopAnswers faults faults' (status.BadInput name place why) = (name ≡ Word 1) × Ended (BadInput place why)
   LoopAnswers faults faults' (status.BadScript line) = Ended (BadScript line)
+  LoopAnswers faults faults' status.TooLong = Ended TooLong
   LoopAnswers faults faults' status.TooMany = Ended TooMany
-  -- the count of that source rose from 0; OUT holds what the events before a `next` make it hold, or nothing
+  -- the count of that source rose from 0; OUT holds nothing, or what events make it hold after which a picture is started next, or
+  -- none is any more
   LoopAnswers faults faults' (status.ReadFault name) =
-      (f : Files) × Shut f × (((name ≡ Word 1) × Rose 0 f.input_faults × Of f UpToNextOrNot) ⊎ ((name ≡ Word 2) × Rose 0 f.script_faults × IsNothing f.held))
+      (f : Files) × Shut f × (((name ≡ Word 1) × Rose 0 f.input_faults × Of f (UpToNextOrNot plain)) ⊎ ((name ≡ Word 2) × Rose 0 f.script_faults × IsNothing f.held))
   -- the count of OUT rose from 0, and it holds a front of what some events make it hold
-  LoopAnswers faults faults' (status.WriteFault name) = (f : Files) × Shut f × (name ≡ Word 3) × Rose 0 f.out_faults × Of f CutOff
+  LoopAnswers faults faults' (status.WriteFault name) = (f : Files) × Shut f × (name ≡ Word 3) × Rose 0 f.out_faults × Of f (CutOff plain)
   LoopAnswers faults faults' (status.OpenFault name) = Rose faults faults' × FirstUnopened name
   -- what was opened was shut, and OUT holds what the events before make it hold, or nothing
-  LoopAnswers faults faults' status.Memory = ShutNone ⊎ (ShutInput ⊎ (ShutBoth ⊎ ((f : Files) × Shut f × Of f SoFarOrNot)))
+  LoopAnswers faults faults' status.Memory = ShutNone ⊎ (ShutInput ⊎ (ShutBoth ⊎ ((f : Files) × Shut f × Of f (SoFarOrNot plain))))
 
 -- what the end of a run is as a status
 abbrev pub StatusOf : Result (Unit {0}) Stop → Status → Type 0
@@ -79,6 +92,7 @@ StatusOf (Err (stop.BadScript line)) s = s ≡ status.BadScript line
 StatusOf (Err stop.InputFault) s = s ≡ status.ReadFault (Word 1)
 StatusOf (Err stop.ScriptFault) s = s ≡ status.ReadFault (Word 2)
 StatusOf (Err stop.WriteFault) s = s ≡ status.WriteFault (Word 3)
+StatusOf (Err stop.TooLong) s = s ≡ status.TooLong
 StatusOf (Err stop.TooMany) s = s ≡ status.TooMany
 StatusOf (Err stop.Memory) s = s ≡ status.Memory
 
@@ -104,6 +118,7 @@ abbrev pub status_of : End → Status
 status_of Done = status.Ok
 status_of (BadInput place why) = status.BadInput (Word 1) place why
 status_of (BadScript line) = status.BadScript line
+status_of TooLong = status.TooLong
 status_of TooMany = status.TooMany
 
 abbrev pub faults_of : Past → ℕ
@@ -120,4 +135,11 @@ pub record IsQuiet (before after : List Past) (faults faults' : ℕ) : Type 0 wh
 abbrev pub IsComplete : List (List ℕ) → (List ℕ → Option (List ℕ)) → List Past → List Past → ℕ → ℕ → Status → Type 0
 IsComplete words holds before after faults faults' s =
     (i o : List ℕ) → IsLoop words (λ input script output. (holds input ≡ Some i) × (holds script ≡ Some o)) → IsQuiet before after faults faults'
-    → (s ≡ status_of (loop_end i o)) ⊎ (s ≡ status.Memory)
+    → (s ≡ status_of (loop_end plain i o)) ⊎ (s ≡ status.Memory)
+
+-- where the words are `loop` and three names and the shelf tells what it has under the first two: the run of these lines over
+-- the pictures after this header keeps all promises of both ends, after any of its events
+abbrev pub Promises : List (List ℕ) → (List ℕ → Option (List ℕ)) → Type 0
+Promises words holds =
+    (i s : List ℕ) → IsLoop words (λ input script output. (holds input ≡ Some i) × (holds script ≡ Some s))
+    → (head : Head) (lines : List Numbered) (body : List ℕ) → header_at i ≡ Some (head, body) → script_of s ≡ Ok lines → KeepsPromises plain head lines body

@@ -1,11 +1,13 @@
 //! The top call: words, files, and the status.
 
 ghost use Rattle.std.specs.Prelude.{◌≡◌, ◌≤◌, ◌↔◌, IsTrue, map, codes, string_bytes};
-ghost use Rattle.sal_app.specs.Top.{LoopAnswers, Answers, IsComplete, StatusOf, Unopened};
+ghost use Rattle.sal_app.specs.Top.{LoopAnswers, Answers, IsComplete, Promises, StatusOf, Unopened};
 
 use crate::looping::run_loop;
 use crate::status::{Named, Status, Stop};
+use sal_codec::Plain;
 use sal_io::{Host, Shelf, ShelfFault};
+use sal_run::every_run_keeps_its_promises;
 use sal_y4m::{Reader, Writer};
 use std::alloc::Global;
 use std::sync::Wait;
@@ -39,6 +41,7 @@ fn status_of(end: Result<(), Stop>) -> Status
         Err(Stop::InputFault) => Status::ReadFault(INPUT),
         Err(Stop::ScriptFault) => Status::ReadFault(SCRIPT),
         Err(Stop::WriteFault) => Status::WriteFault(OUTPUT),
+        Err(Stop::TooLong) => Status::TooLong,
         Err(Stop::TooMany) => Status::TooMany,
         Err(Stop::Memory) => Status::Memory,
     }
@@ -78,8 +81,7 @@ fn run_files<F: Shelf>(
     };
     let mut pictures = Reader::new(source);
     let mut out = Writer::new(sink);
-    let mut sent = Vec::new(alloc);
-    let end = run_loop(alloc, &mut pictures, &mut lines, &mut out, &mut sent);
+    let end = run_loop(alloc, Plain, &mut pictures, &mut lines, &mut out);
     files.shut_in(pictures.into_source());
     files.shut_in(lines);
     files.shut_out(out.into_sink());
@@ -98,10 +100,12 @@ fn is_loop(word: &str) -> bool
 pub fn salsify_alone<F: Shelf>(alloc: Global, words: &[String], host: &mut Host<F>) -> Status
     ensures answers { Answers (map string_bytes words.now) (F.holds host.old.files) (F.pasts host.old.files) (F.pasts host.new.files) (F.faults host.old.files) (F.faults host.new.files) result }
     ensures complete { IsComplete (map string_bytes words.now) (F.holds host.old.files) (F.pasts host.old.files) (F.pasts host.new.files) (F.faults host.old.files) (F.faults host.new.files) result }
+    ensures promises { Promises (map string_bytes words.now) (F.holds host.old.files) }
     ensures later { F.faults host.old.files ≤ F.faults host.new.files }
     ensures holds { F.holds host.new.files ≡ F.holds host.old.files }
     ensures spare { F.spare host.new.files ≡ F.spare host.old.files }
 {
+    every_run_keeps_its_promises::<Plain>();
     let [command, input, script, output] = words else {
         return Status::Usage;
     };
@@ -127,6 +131,7 @@ pub fn salsify<R: Threads + Wait + Sync, F: Shelf>(
 ) -> Status
     ensures answers { Answers (map string_bytes words.now) (F.holds host.old.files) (F.pasts host.old.files) (F.pasts host.new.files) (F.faults host.old.files) (F.faults host.new.files) result }
     ensures complete { IsComplete (map string_bytes words.now) (F.holds host.old.files) (F.pasts host.old.files) (F.pasts host.new.files) (F.faults host.old.files) (F.faults host.new.files) result }
+    ensures promises { Promises (map string_bytes words.now) (F.holds host.old.files) }
     ensures later { F.faults host.old.files ≤ F.faults host.new.files }
     ensures holds { F.holds host.new.files ≡ F.holds host.old.files }
     ensures spare { F.spare host.new.files ≡ F.spare host.old.files }

@@ -2,11 +2,7 @@
 #![tactic(auto)]
 
 mod app;
-mod key;
 mod looping;
-mod run;
-mod script;
-mod session;
 mod status;
 
 pub use app::{salsify, salsify_alone};

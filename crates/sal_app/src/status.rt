@@ -32,6 +32,8 @@ pub enum Status {
     WriteFault(Named),
     /// This file wasn't opened.
     OpenFault(Named),
+    /// The samples of the input are more than a session takes.
+    TooLong,
     /// The input has more pictures than a session takes.
     TooMany,
     Memory,
@@ -50,6 +52,7 @@ impl Status {
             Status::ReadFault(_) => 6,
             Status::WriteFault(_) => 7,
             Status::OpenFault(_) => 8,
+            Status::TooLong => 11,
             Status::TooMany => 12,
             Status::Memory => 15,
         }
@@ -66,6 +69,7 @@ pub enum Stop {
     /// The source of the script failed.
     ScriptFault,
     WriteFault,
+    TooLong,
     TooMany,
     Memory,
 }

@@ -23,5 +23,5 @@ returns-clause-answers g c =
     c.shut_in-3.ensures.pasts
     (c.shut_out.ensures.pasts ∙ ap (λ s. g.F.Shelf.pasts c.shut_in-3.new.self ++ Out (oname s) (held s) (ofaults s) ∷ []) c.into_sink.ensures)
     c.run_loop-end.ensures.name c.run_loop-end.ensures.had c.run_loop-end.ensures.script_name c.run_loop-end.ensures.script_had c.run_loop-end.ensures.out_name
-    c.run_loop-end.ensures.gives c.run_loop-end.ensures.ending c.run_loop-end.ensures.end c.run_loop-end.ensures.script_end
+    c.run_loop-end.ensures.gives c.run_loop-end.ensures.end c.run_loop-end.ensures.script_end
     c.run_loop-end.ensures.cause c.run_loop-end.ensures.script_cause c.run_loop-end.ensures.out_cause

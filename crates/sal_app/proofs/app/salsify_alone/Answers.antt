@@ -1,5 +1,5 @@
 use Rattle.std.proofs.Common.{◌<◌, ◌≤◌, inl, length, string_bytes, arith, sym, ◌∙◌}
-use Rattle.sal_app.proofs.TopLemmas.{loop_said, complete}
+use Rattle.sal_app.proofs.TopLemmas.{loop_said, complete, promised}
 use Rattle.sal_app.proofs.app.salsify_alone.Goals as goal
 
 pub returns-clause-answers : goal.returns-clause-answers
@@ -11,3 +11,12 @@ returns-clause-answers g c =
 
 pub returns-clause-complete : goal.returns-clause-complete
 returns-clause-complete g c = complete _ _ _ _ _ _ _ (returns-clause-answers g c)
+
+pub returns-in_default-clause-promises : goal.returns-in_default-clause-promises
+returns-in_default-clause-promises g c = promised _ _ c.every_run_keeps_its_promises.ensures
+
+pub returns-in_default-2-clause-promises : goal.returns-in_default-2-clause-promises
+returns-in_default-2-clause-promises g c = promised _ _ c.every_run_keeps_its_promises.ensures
+
+pub returns-clause-promises : goal.returns-clause-promises
+returns-clause-promises g c = promised _ _ c.every_run_keeps_its_promises.ensures

@@ -1,18 +1,18 @@
-use Rattle.sal_app.proofs.EndLemmas.{with_script, script_stops, script_end}
-use Rattle.sal_app.proofs.EndingLemmas.{with_script as ends_with, script_ends}
+use Rattle.sal_app.proofs.LoopLemmas.{script_stops, head_stops, ran, ran_to_end}
 use Rattle.sal_app.proofs.looping.run_loop.Goals as goal
 
 pub returns-in-Err-clause-gives : goal.returns-in-Err-clause-gives
-returns-in-Err-clause-gives g c = script_stops c.in-Err.stop (g.S.Source.left c.args.pictures.now.source) (g.T.Source.left c.args.script.now) (g.T.Source.left c.read_script.new.source) (g.K.Sink.held c.args.out.now.sink) c.requires.nothing c.in-Err.ensures.told
+returns-in-Err-clause-gives g c = script_stops g.C.Codec.coding c.in-Err.stop _ _ (g.T.Source.left c.read_lines.new.script) _ c.requires.nothing c.in-Err.ensures.told
+
+pub returns-in-Err-read_head-clause-gives : goal.returns-in-Err-read_head-clause-gives
+returns-in-Err-read_head-clause-gives g c =
+    head_stops g.C.Codec.coding c.in-Err-read_head.stop c.read_head.new.pictures.head c.in-Ok.lines _ (g.S.Source.left c.read_head.new.pictures.source) _ (g.T.Source.left c.read_lines.new.script) _
+    c.requires.nothing c.in-Err-read_head.ensures.told c.in-Ok.ensures.told
 
 pub returns-clause-gives : goal.returns-clause-gives
-returns-clause-gives g c = with_script c.run_lines.result _ _ _ _ _ _ c.in-Ok.ensures.told c.lines.ensures c.run_lines.ensures.gives
+returns-clause-gives g c =
+    ran g.C.Codec.coding c.run_alone-end.result c.run_stop.result c.read_head.new.pictures.head c.in-Ok.lines _ (g.S.Source.left c.read_head.new.pictures.source) _ (g.T.Source.left c.read_lines.new.script) _
+    c.run_stop.ensures c.in_default.ensures.told c.in-Ok.ensures.told c.run_alone-end.ensures.gives
 
-pub returns-clause-script_end : goal.returns-clause-script_end
-returns-clause-script_end g c = script_end c.run_lines.result _ _ _ c.in-Ok.ensures.told
-
-pub returns-in-Err-clause-ending : goal.returns-in-Err-clause-ending
-returns-in-Err-clause-ending g c = script_ends c.in-Err.stop (g.S.Source.left c.args.pictures.now.source) (g.T.Source.left c.args.script.now) (g.T.Source.left c.read_script.new.source) c.in-Err.ensures.told
-
-pub returns-clause-ending : goal.returns-clause-ending
-returns-clause-ending g c = ends_with c.run_lines.result _ _ _ _ _ c.in-Ok.ensures.told c.lines.ensures c.run_lines.ensures.ending
+pub returns-clause-end : goal.returns-clause-end
+returns-clause-end g c = ran_to_end c.run_alone-end.result c.run_stop.result _ c.run_stop.ensures c.run_alone-end.ensures.end

@@ -1,0 +1,173 @@
+-- What a whole run gives, from what reading its script, its header and its lines gave.
+use Rattle.std.proofs.Common.{◌≡◌, ℕ, inl, inr, true, false, List, [], Option, Some, None, IfSome, sym, ap, ◌∙◌, subst}
+use Rattle.std.specs.Prelude.{Bool, Result, Ok, Err, ◌⊎◌}
+use Rattle.sal_codec.specs.Coding.{Coding}
+use Rattle.sal_io.specs.Told.{ReadsAs}
+use Rattle.sal_y4m.specs.declared.head.Head.{Head}
+use Rattle.sal_y4m.specs.declared.fault.Why.{Why}
+use Rattle.sal_y4m.specs.declared.fault.Why.TheVariants.{Form}
+use Rattle.sal_y4m.specs.Grammar.{header_at}
+use Rattle.sal_script.specs.Numbered.{Numbered}
+use Rattle.sal_script.specs.Script.{script_of}
+use Rattle.sal_run.specs.declared.diary.DiaryFault.{DiaryFault}
+use Rattle.sal_run.specs.declared.end.RunEnd.{RunEnd}
+use Rattle.sal_run.specs.declared.end.RunEnd.TheVariants as run
+use Rattle.sal_run.specs.declared.end.Which.TheVariants.{Out, Journal, Pictures, Script}
+use Rattle.sal_run.specs.Clip.{End, Done, BadInput, BadScript, TooMany, TooLong}
+use Rattle.sal_run.specs.Loop.{out_text, clip_run, input_end, input_out, script_end, script_out, loop_end, loop_out}
+use Rattle.sal_run.specs.Ends.{UpToNext, Cut, PartlyOrNot}
+use Rattle.sal_run.specs.Ends.{Ends as LinesEnd, RunGives as LinesGave, AtEnd as LinesAtEnd}
+use Rattle.sal_app.specs.declared.status.Stop.{Stop}
+use Rattle.sal_app.specs.declared.status.Stop.TheVariants as stop
+use Rattle.sal_app.specs.Stops.{of_run, IsNothing, LinesGive, HeadGives}
+use Rattle.sal_app.specs.Ends.{OfRun, Told, Ends, SoFarOrNot, RunGives, AtEnd}
+
+-- ---- where all is told
+
+loop_is : {S : Type 0} (codec : Coding S) (i s body : List ℕ) (head : Head) (lines : List Numbered) → header_at i ≡ Some (head, body) → script_of s ≡ Ok lines → loop_end codec i s ≡ (clip_run codec head body lines).1
+unfolding loop_end
+loop_is codec i s body head lines p q = ap (script_end codec i) q ∙ ap (λ (h : Option (Head × List ℕ)). input_end codec h lines) p
+
+out_is : {S : Type 0} (codec : Coding S) (i s body : List ℕ) (head : Head) (lines : List Numbered) → header_at i ≡ Some (head, body) → script_of s ≡ Ok lines → loop_out codec i s ≡ out_text head (clip_run codec head body lines).0.world
+unfolding loop_out
+out_is codec i s body head lines p q = ap (script_out codec i) q ∙ ap (λ (h : Option (Head × List ℕ)). input_out codec h lines) p
+
+held_is : (out : Option (List ℕ)) (a b : List ℕ) → b ≡ a → IfSome out (λ o. o ≡ a) → IfSome out (λ o. o ≡ b)
+held_is None a b e is = tt
+held_is (Some o) a b e is = is ∙ sym e
+
+-- the lines over the pictures ended so
+with_lines : {S : Type 0} (codec : Coding S) (end : End) (head : Head) (lines : List Numbered) (i i' s o : Option (List ℕ)) → ReadsAs header_at i i' head → IfSome s (λ s. script_of s ≡ Ok lines)
+    → IfSome i' (λ body. LinesEnd codec head lines end body o) → Ends codec end i s o
+with_lines codec end head lines None i' s o p q ends = tt
+with_lines codec end head lines (Some i) None s o p q ends = absurd p
+with_lines codec end head lines (Some i) (Some body) None o p q ends = tt
+with_lines codec end head lines (Some i) (Some body) (Some s) o p q ends =
+    (loop_is codec i s body head lines p q ∙ ends.0, held_is o _ _ (out_is codec i s body head lines p q) ends.1)
+
+-- this holds of the bytes after the header and of what OUT holds
+abbrev pub Both : Option (List ℕ) → Option (List ℕ) → (List ℕ → List ℕ → Type 0) → Type 0
+Both input out P = IfSome input (λ i. IfSome out (P i))
+
+with_told : (P : Head → List Numbered → List ℕ → List ℕ → Type 0) (head : Head) (lines : List Numbered) (i i' s o : Option (List ℕ)) → ReadsAs header_at i i' head → IfSome s (λ s. script_of s ≡ Ok lines)
+    → Both i' o (P head lines) → Told i s o (λ i s o. OfRun (λ head lines body. P head lines body o) i s)
+with_told P head lines i i' s None p q told = tt
+with_told P head lines None i' s (Some o) p q told = tt
+with_told P head lines (Some i) None s (Some o) p q told = absurd p
+with_told P head lines (Some i) (Some body) None (Some o) p q told = tt
+with_told P head lines (Some i) (Some body) (Some s) (Some o) p q told = (head, (lines, (body, p, q, told)))
+
+abbrev pub OrNothing : (List ℕ → List ℕ → List ℕ → Type 0) → List ℕ → List ℕ → List ℕ → Type 0
+OrNothing P i s o = (o ≡ []) ⊎ P i s o
+
+or_not : (P : List ℕ → List ℕ → List ℕ → Type 0) (i s o : Option (List ℕ)) → Told i s o P → Told i s o (OrNothing P)
+or_not P i s None told = tt
+or_not P None s (Some o) told = tt
+or_not P (Some i) None (Some o) told = tt
+or_not P (Some i) (Some s) (Some o) told = inr told
+
+nothing : (P : List ℕ → List ℕ → List ℕ → Type 0) (i s o : Option (List ℕ)) → IsNothing o → Told i s o (OrNothing P)
+nothing P i s None none = tt
+nothing P None s (Some o) none = tt
+nothing P (Some i) None (Some o) none = tt
+nothing P (Some i) (Some s) (Some o) none = inl none
+
+-- OUT holds nothing, or what some events make it hold
+partly_or_not : {S : Type 0} (codec : Coding S) (head : Head) (lines : List Numbered) (i i' s o : Option (List ℕ)) → ReadsAs header_at i i' head → IfSome s (λ s. script_of s ≡ Ok lines)
+    → Both i' o (PartlyOrNot codec head lines) → Told i s o (SoFarOrNot codec)
+partly_or_not codec head lines i i' s None p q told = tt
+partly_or_not codec head lines None i' s (Some o) p q told = tt
+partly_or_not codec head lines (Some i) None s (Some o) p q told = absurd p
+partly_or_not codec head lines (Some i) (Some body) None (Some o) p q told = tt
+partly_or_not codec head lines (Some i) (Some body) (Some s) (Some o) p q (inl none) = inl none
+partly_or_not codec head lines (Some i) (Some body) (Some s) (Some o) p q (inr part) = inr (head, (lines, (body, p, q, part)))
+
+-- ---- the run
+
+-- a diary that gives no fault
+abbrev pub none_given : DiaryFault → Bool
+none_given fault = false
+
+run_gives : {S : Type 0} (codec : Coding S) (end : RunEnd) (head : Head) (lines : List Numbered) (i i' s o : Option (List ℕ)) → ReadsAs header_at i i' head → IfSome s (λ s. script_of s ≡ Ok lines)
+    → LinesGave codec head lines none_given end i' o → RunGives codec (of_run end) i s o
+run_gives codec run.Ok head lines i i' s o p q gave = with_lines codec Done head lines i i' s o p q gave
+run_gives codec (run.BadInput place why) head lines i i' s o p q gave = with_lines codec (BadInput place why) head lines i i' s o p q gave
+run_gives codec (run.BadScript line) head lines i i' s o p q gave = with_lines codec (BadScript line) head lines i i' s o p q gave
+run_gives codec run.TooMany head lines i i' s o p q gave = with_lines codec TooMany head lines i i' s o p q gave
+run_gives codec run.TooLong head lines i i' s o p q (inl gave) = with_lines codec TooLong head lines i i' s o p q gave
+run_gives codec run.TooLong head lines i i' s o p q (inr failed) = let never : false ≡ true = failed.0 in absurd cc
+run_gives codec run.ReadFault head lines i i' s o p q gave = or_not _ i s o (with_told (UpToNext codec) head lines i i' s o p q gave)
+run_gives codec (run.WriteFault Out) head lines i i' s o p q gave = with_told (Cut codec) head lines i i' s o p q gave
+run_gives codec (run.WriteFault Journal) head lines i i' s o p q gave = let never : false ≡ true = gave.0 in absurd cc
+run_gives codec (run.WriteFault Pictures) head lines i i' s o p q gave = absurd gave
+run_gives codec (run.WriteFault Script) head lines i i' s o p q gave = absurd gave
+run_gives codec run.Memory head lines i i' s o p q gave = partly_or_not codec head lines i i' s o p q gave
+
+-- the lines were run
+pub ran : {S : Type 0} (codec : Coding S) (end : RunEnd) (r : Result (Unit {0}) Stop) (head : Head) (lines : List Numbered) (i i' s s' o : Option (List ℕ)) → r ≡ of_run end
+    → HeadGives i i' head (Ok tt) → LinesGive s s' (Ok lines) → LinesGave codec head lines none_given end i' o → RunGives codec r i s o
+ran codec end r head lines i i' s s' o e p q gave = subst (λ x. RunGives codec x i s o) (sym e) (run_gives codec end head lines i i' s o p q.0 gave)
+
+run_at_end : (end : RunEnd) (left : Option (List ℕ)) → LinesAtEnd end left → AtEnd (of_run end) left
+run_at_end run.Ok left at_end = at_end
+run_at_end (run.BadInput place why) left at_end = tt
+run_at_end (run.BadScript line) left at_end = tt
+run_at_end run.TooMany left at_end = tt
+run_at_end run.TooLong left at_end = tt
+run_at_end run.ReadFault left at_end = tt
+run_at_end (run.WriteFault which) left at_end = tt
+run_at_end run.Memory left at_end = tt
+
+pub ran_to_end : (end : RunEnd) (r : Result (Unit {0}) Stop) (left : Option (List ℕ)) → r ≡ of_run end → LinesAtEnd end left → AtEnd r left
+ran_to_end end r left e at_end = subst (λ x. AtEnd x left) (sym e) (run_at_end end left at_end)
+
+-- the script was read to its end, however the run ends
+pub script_to_end : (r : Result (Unit {0}) Stop) (lines : List Numbered) (s s' : Option (List ℕ)) → LinesGive s s' (Ok lines) → AtEnd r s'
+script_to_end (Ok x) lines s s' q = q.1
+script_to_end (Err why) lines s s' q = tt
+
+-- ---- the script and the header
+
+no_script : {S : Type 0} (codec : Coding S) (i s : List ℕ) (n : ℕ) → script_of s ≡ Err n → (loop_end codec i s ≡ BadScript n) × (loop_out codec i s ≡ [])
+unfolding loop_end loop_out
+no_script codec i s n q = (ap (script_end codec i) q, ap (script_out codec i) q)
+
+bad_script : {S : Type 0} (codec : Coding S) (n : ℕ) (i s o : Option (List ℕ)) → IsNothing o → IfSome s (λ s. script_of s ≡ Err n) → Ends codec (BadScript n) i s o
+bad_script codec n None s o none q = tt
+bad_script codec n (Some i) None o none q = tt
+bad_script codec n (Some i) (Some s) o none q = let is = no_script codec i s n q in (is.0, held_is o [] _ is.1 none)
+
+-- the script wasn't read, or isn't one
+pub script_stops : {S : Type 0} (codec : Coding S) (why : Stop) (i s s' o : Option (List ℕ)) → IsNothing o → LinesGive s s' (Err why) → RunGives codec (Err why) i s o
+script_stops codec (stop.BadScript n) i s s' o none q = bad_script codec n i s o none q
+script_stops codec stop.ScriptFault i s s' o none q = none
+script_stops codec stop.Memory i s s' o none q = nothing _ i s o none
+script_stops codec (stop.BadInput place why) i s s' o none q = absurd q
+script_stops codec stop.InputFault i s s' o none q = absurd q
+script_stops codec stop.WriteFault i s s' o none q = absurd q
+script_stops codec stop.TooLong i s s' o none q = absurd q
+script_stops codec stop.TooMany i s s' o none q = absurd q
+
+no_header : {S : Type 0} (codec : Coding S) (i s : List ℕ) (lines : List Numbered) → header_at i ≡ None → script_of s ≡ Ok lines → (loop_end codec i s ≡ BadInput 0 Form) × (loop_out codec i s ≡ [])
+unfolding loop_end loop_out
+no_header codec i s lines p q =
+    (ap (script_end codec i) q ∙ ap (λ (h : Option (Head × List ℕ)). input_end codec h lines) p, ap (script_out codec i) q ∙ ap (λ (h : Option (Head × List ℕ)). input_out codec h lines) p)
+
+bad_header : {S : Type 0} (codec : Coding S) (place : ℕ) (why : Why) (lines : List Numbered) (i s o : Option (List ℕ)) → IsNothing o → place ≡ 0 → why ≡ Form → IfSome i (λ i. header_at i ≡ None)
+    → IfSome s (λ s. script_of s ≡ Ok lines) → Ends codec (BadInput place why) i s o
+bad_header codec place why lines None s o none a b p q = tt
+bad_header codec place why lines (Some i) None o none a b p q = tt
+bad_header codec place why lines (Some i) (Some s) o none a b p q =
+    let is = no_header codec i s lines p q in
+    (is.0 ∙ ap (λ (n : ℕ). BadInput n Form) (sym a) ∙ ap (λ (w : Why). BadInput place w) (sym b), held_is o [] _ is.1 none)
+
+-- the header wasn't read, or isn't one
+pub head_stops : {S : Type 0} (codec : Coding S) (why : Stop) (head : Head) (lines : List Numbered) (i i' s s' o : Option (List ℕ)) → IsNothing o → HeadGives i i' head (Err why) → LinesGive s s' (Ok lines) → RunGives codec (Err why) i s o
+head_stops codec (stop.BadInput place why) head lines i i' s s' o none p q = bad_header codec place why lines i s o none p.1 p.2 p.0 q.0
+head_stops codec stop.InputFault head lines i i' s s' o none p q = nothing _ i s o none
+head_stops codec (stop.BadScript n) head lines i i' s s' o none p q = absurd p
+head_stops codec stop.ScriptFault head lines i i' s s' o none p q = absurd p
+head_stops codec stop.WriteFault head lines i i' s s' o none p q = absurd p
+head_stops codec stop.TooLong head lines i i' s s' o none p q = absurd p
+head_stops codec stop.TooMany head lines i i' s s' o none p q = absurd p
+head_stops codec stop.Memory head lines i i' s s' o none p q = absurd p
