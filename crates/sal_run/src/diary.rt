@@ -3,9 +3,10 @@
 ghost use Rattle.std.specs.Prelude.{◌≡◌, ℕ, Bool, true, false, Err, IfErr};
 ghost use Rattle.sal_io.specs.Calls.{HasCause};
 
-use sal_base::{Bytes, Name};
+use sal_base::{Bytes, Name, Picture};
 use sal_sender::{JobRole, Sizes};
 use sal_y4m::Head;
+use std::snapshot::Snapshot;
 
 /// Why a line isn't written down.
 #[derive(Clone, Copy, Debug, PartialEq, Eq)]
@@ -74,6 +75,18 @@ pub enum Line {
     GivenUp(u32, bool),
     /// The session ends.
     End,
+}
+
+/// What is kept of an event.
+#[derive(Drop)]
+pub enum Entry {
+    /// It has this line.
+    Line(Line),
+    /// The picture of this number, which contracts alone see, is started; its line is that of `Line::Next`.
+    Next(u32, Snapshot<Picture>),
+    /// It has no line: the call; the number of the job or frame that it decided, else 0; and whether there was no memory for what
+    /// it reported.
+    Idle(CallKind, u32, bool),
 }
 
 /// Where a run writes down what happens.

@@ -14,7 +14,7 @@ mod script;
 mod stage;
 mod stop;
 
-pub use diary::{CallKind, Diary, DiaryFault, Line, NoDiary, ReportSize};
+pub use diary::{CallKind, Diary, DiaryFault, Entry, Line, NoDiary, ReportSize};
 pub use end::{RunEnd, Which};
 pub use laws::every_run_keeps_its_promises;
 pub use run::run_alone;
