@@ -6,21 +6,9 @@ use Rattle.sal_filter.specs.declared.across.Across.{Across}
 use Rattle.sal_filter.specs.declared.edge.Edge.{Edge}
 use Rattle.sal_filter.specs.declared.edge.Sort.{Sort}
 use Rattle.sal_filter.specs.declared.edge.Sort.TheVariants.{Simple, Inner, Outer}
-use Rattle.sal_filter.specs.Edges.{AreBytes, AreSigned, IsSigned, s, is_near, is_smooth, is_steep, place_filtered, simple, inner, outer, step, inner_step, lost, gained, half_lost, part}
+use Rattle.sal_filter.specs.Edges.{AreSigned, IsSigned, s, is_near, is_smooth, is_steep, place_filtered, simple, inner, outer, step, inner_step, lost, gained, half_lost, part}
 use Rattle.sal_filter.specs.Filtered.{across, across_put, place_put, edge_filtered}
 use Rattle.sal_filter.specs.Lanes.{edge_place}
-
-pub bytes_of : (a : Across) → AreSigned a → AreBytes a
-bytes_of a h = record {
-  p3 = (omega (arith, ints, h.p3), omega (arith, ints, h.p3));
-  p2 = (omega (arith, ints, h.p2), omega (arith, ints, h.p2));
-  p1 = (omega (arith, ints, h.p1), omega (arith, ints, h.p1));
-  p0 = (omega (arith, ints, h.p0), omega (arith, ints, h.p0));
-  q0 = (omega (arith, ints, h.q0), omega (arith, ints, h.q0));
-  q1 = (omega (arith, ints, h.q1), omega (arith, ints, h.q1));
-  q2 = (omega (arith, ints, h.q2), omega (arith, ints, h.q2));
-  q3 = (omega (arith, ints, h.q3), omega (arith, ints, h.q3));
-}
 
 cut_signed : (x : ℤ) → IsSigned (s x)
 cut_signed x = (omega (arith, ints, clamps), omega (arith, ints, clamps))

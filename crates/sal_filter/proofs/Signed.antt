@@ -4,7 +4,30 @@ use Rattle.std.proofs.lemmas.Int.{ints}
 use Rattle.std.specs.Int.{int_shr}
 use Rattle.sal_filter.specs.declared.across.Across.{Across}
 use Rattle.sal_macroblock.specs.Sizes.{Within}
-use Rattle.sal_filter.specs.Edges.{s}
+use Rattle.sal_filter.specs.Edges.{AreSigned, s}
+
+-- all eight samples are at most 128 in size
+pub record AreSmall (a : Across) : Type 0 where
+  pub p3 : Within 128 a.p3
+  pub p2 : Within 128 a.p2
+  pub p1 : Within 128 a.p1
+  pub p0 : Within 128 a.p0
+  pub q0 : Within 128 a.q0
+  pub q1 : Within 128 a.q1
+  pub q2 : Within 128 a.q2
+  pub q3 : Within 128 a.q3
+
+pub small_of : (a : Across) → AreSigned a → AreSmall a
+small_of a h = record {
+  p3 = (omega (arith, ints, h.p3), omega (arith, ints, h.p3));
+  p2 = (omega (arith, ints, h.p2), omega (arith, ints, h.p2));
+  p1 = (omega (arith, ints, h.p1), omega (arith, ints, h.p1));
+  p0 = (omega (arith, ints, h.p0), omega (arith, ints, h.p0));
+  q0 = (omega (arith, ints, h.q0), omega (arith, ints, h.q0));
+  q1 = (omega (arith, ints, h.q1), omega (arith, ints, h.q1));
+  q2 = (omega (arith, ints, h.q2), omega (arith, ints, h.q2));
+  q3 = (omega (arith, ints, h.q3), omega (arith, ints, h.q3));
+}
 
 pub held : (z x : ℤ) → z ≡ x → Within 128 z → to_z w16 (of_z w16 z) ≡ x
 held z x e h = omega (arith, ints)

@@ -3,24 +3,13 @@ use Rattle.std.specs.Prelude.{ℕ, ◌+◌, ◌*◌, ◌/◌, ℤ, pos, neg_ℤ,
 use Rattle.sal_filter.specs.declared.across.Across.{Across}
 use Rattle.sal_filter.specs.declared.edge.Sort.{Sort}
 use Rattle.sal_filter.specs.declared.edge.Sort.TheVariants.{Simple, Inner, Outer}
-use Rattle.sal_macroblock.specs.Sizes.{Within}
 use Rattle.std.specs.Int.{int_min, int_max, int_shr}
-
--- all eight samples are signed bytes
-pub record AreBytes (a : Across) : Type 0 where
-  pub p3 : Within 128 a.p3
-  pub p2 : Within 128 a.p2
-  pub p1 : Within 128 a.p1
-  pub p0 : Within 128 a.p0
-  pub q0 : Within 128 a.q0
-  pub q1 : Within 128 a.q1
-  pub q2 : Within 128 a.q2
-  pub q3 : Within 128 a.q3
 
 -- a sample less 128
 abbrev pub IsSigned : ℤ → Type 0
 IsSigned x = (neg_ℤ (pos 128) ≤ℤ x) × (x ≤ℤ pos 127)
 
+-- the same of all eight samples
 pub record AreSigned (a : Across) : Type 0 where
   pub p3 : IsSigned a.p3
   pub p2 : IsSigned a.p2

@@ -1,4 +1,4 @@
--- How strongly a macroblock's edges are filtered (RFC 6386, 9.3, 9.6, 15.1 and 15.2).
+-- How strongly a macroblock's edges are filtered (RFC 6386, 9.3, 9.4, 15.1 and 15.2).
 use Rattle.std.specs.Prelude.{ℕ, ◌+◌, ◌-◌, ◌*◌, ◌/◌, ◌^◌, min, max, ℤ, pos, negsuc, ◌+ℤ◌, List, Bool, Option, Some, None, if◌then◌else◌, ◌==◌, nat_lt, nat_le, slice_index_or}
 use Rattle.sal_macroblock.specs.declared.mode.RefKind.{RefKind}
 use Rattle.sal_macroblock.specs.declared.mode.RefKind.TheVariants.{Intra, Last, Golden, Alt}
@@ -13,6 +13,7 @@ abbrev pub level_in : ℤ → ℕ
 level_in (pos n) = min 63 n
 level_in (negsuc n) = 0
 
+-- one of four numbers, by segment, reference or mode
 abbrev pub entry : List ℤ → ℕ → ℤ
 entry xs k = slice_index_or xs k (pos 0)
 
@@ -37,7 +38,7 @@ mode_delta xs NEAR = entry xs 2
 mode_delta xs NEW = entry xs 2
 mode_delta xs _ = pos 0
 
--- the deltas of the reference and of the mode on a level (9.6)
+-- the deltas of the reference and of the mode on a level (9.4)
 abbrev pub with_deltas : Option (List ℤ × List ℤ) → MbMode → ℕ → ℕ
 with_deltas None m level = level
 with_deltas (Some d) m level = level_in ((pos level +ℤ entry d.0 (reference_number m.reference)) +ℤ mode_delta d.1 m.y)

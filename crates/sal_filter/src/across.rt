@@ -3,7 +3,7 @@
 ghost use Rattle.std.specs.Prelude.{◌≡◌, ◌+◌, ◌*◌, ◌≤◌, ◌<◌, ℤ, pos, neg_ℤ, ◌+ℤ◌, ◌-ℤ◌, ◌*ℤ◌, ◌≤ℤ◌, if◌then◌else◌};
 ghost use Rattle.std.specs.Int.{int_shr};
 ghost use Rattle.sal_macroblock.specs.Sizes.{Within};
-ghost use Rattle.sal_filter.specs.Edges.{AreBytes, AreSigned, s, lost, gained, common, step, simple, half_lost, inner, part, outer};
+ghost use Rattle.sal_filter.specs.Edges.{AreSigned, s, lost, gained, common, step, simple, half_lost, inner, part, outer};
 
 /// Samples less 128, by their distance from the edge: p before it, q after it.
 #[derive(Clone, Copy, Debug, PartialEq, Eq)]
@@ -131,7 +131,7 @@ fn part_9(w: i16) -> i16
 #[inline(always)]
 fn common(x: i16, a: Across) -> Across
     requires x { Within 128 x }
-    requires bytes { AreBytes a }
+    requires signed { AreSigned a }
     ensures value { result ≡ common x a }
 {
     let mut a = a;
@@ -143,7 +143,7 @@ fn common(x: i16, a: Across) -> Across
 /// The simple filter, which moves the two nearest samples.
 #[inline(always)]
 pub fn simple(a: Across) -> Across
-    requires bytes { AreBytes a }
+    requires signed { AreSigned a }
     ensures value { result ≡ simple a }
 {
     let w = step(moved_back(a.p1, a.q1), a.p0, a.q0);

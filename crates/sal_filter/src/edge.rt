@@ -1,7 +1,7 @@
 //! Edges of blocks, place by place (RFC 6386, sections 15.2 and 15.3).
 
 ghost use Rattle.std.specs.Prelude.{◌≡◌, ℕ, ◌+◌, ◌*◌, ◌<◌, ◌≤◌, ◌&&◌, ◌-ℤ◌, pos, length};
-ghost use Rattle.sal_filter.specs.Edges.{AreBytes, AreSigned, IsSigned, is_near, is_even, is_smooth, is_steep};
+ghost use Rattle.sal_filter.specs.Edges.{AreSigned, IsSigned, is_near, is_even, is_smooth, is_steep};
 ghost use Rattle.sal_filter.specs.Filtered.{plus_128, across, across_put, place_put, edge_filtered, edge_of};
 ghost use Rattle.sal_filter.specs.Lanes.{edge_place};
 
@@ -52,7 +52,7 @@ pub fn edge_of(is_simple: bool, is_outer: bool, limits: &Limits) -> Edge
 
 #[inline(always)]
 fn is_near(limit: u16, a: &Across) -> bool
-    requires { AreBytes a.now }
+    requires { AreSigned a.now }
     ensures { result ≡ is_near limit a.now }
 {
     2 * a.p0.abs_diff(a.q0) + a.p1.abs_diff(a.q1) / 2 <= limit
@@ -61,7 +61,7 @@ fn is_near(limit: u16, a: &Across) -> bool
 // Whether the samples before the edge differ little from one to the next.
 #[inline(always)]
 fn is_even_before(limit: u16, a: &Across) -> bool
-    requires { AreBytes a.now }
+    requires { AreSigned a.now }
     ensures { result ≡ is_even limit a.now.p3 a.now.p2 a.now.p1 a.now.p0 }
 {
     (a.p3.abs_diff(a.p2) <= limit) & (a.p2.abs_diff(a.p1) <= limit) & (a.p1.abs_diff(a.p0) <= limit)
@@ -69,7 +69,7 @@ fn is_even_before(limit: u16, a: &Across) -> bool
 
 #[inline(always)]
 fn is_even_after(limit: u16, a: &Across) -> bool
-    requires { AreBytes a.now }
+    requires { AreSigned a.now }
     ensures { result ≡ is_even limit a.now.q3 a.now.q2 a.now.q1 a.now.q0 }
 {
     (a.q3.abs_diff(a.q2) <= limit) & (a.q2.abs_diff(a.q1) <= limit) & (a.q1.abs_diff(a.q0) <= limit)
@@ -77,7 +77,7 @@ fn is_even_after(limit: u16, a: &Across) -> bool
 
 #[inline(always)]
 fn is_smooth(limit: u16, a: &Across) -> bool
-    requires { AreBytes a.now }
+    requires { AreSigned a.now }
     ensures { result ≡ is_smooth limit a.now }
 {
     is_even_before(limit, a) & is_even_after(limit, a)
@@ -85,7 +85,7 @@ fn is_smooth(limit: u16, a: &Across) -> bool
 
 #[inline(always)]
 fn is_steep(threshold: u16, a: &Across) -> bool
-    requires { AreBytes a.now }
+    requires { AreSigned a.now }
     ensures { result ≡ is_steep threshold a.now }
 {
     (a.p1.abs_diff(a.p0) > threshold) | (a.q1.abs_diff(a.q0) > threshold)
@@ -94,7 +94,7 @@ fn is_steep(threshold: u16, a: &Across) -> bool
 // Whether the normal filter moves anything.
 #[inline(always)]
 fn is_filtered(edge: &Edge, a: &Across) -> bool
-    requires { AreBytes a.now }
+    requires { AreSigned a.now }
     ensures { result ≡ (is_near edge.now.limit a.now && is_smooth edge.now.interior a.now) }
 {
     is_near(edge.limit, a) & is_smooth(edge.interior, a)

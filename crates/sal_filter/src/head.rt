@@ -1,4 +1,4 @@
-//! What the filter is told of a frame and of its macroblocks (RFC 6386, sections 9.3, 9.6 and 15).
+//! What the filter is told of a frame and of its macroblocks (RFC 6386, sections 9.3, 9.4 and 15).
 
 use sal_macroblock::MbMode;
 

@@ -1,4 +1,4 @@
-//! How strongly a macroblock's edges are filtered (RFC 6386, sections 9.3, 9.6, 15.1 and 15.2).
+//! How strongly a macroblock's edges are filtered (RFC 6386, sections 9.3, 9.4, 15.1 and 15.2).
 
 ghost use Rattle.std.specs.Prelude.{◌≡◌, ◌≤◌, ℤ, pos, ◌+ℤ◌, ◌≤ℤ◌, negsuc};
 ghost use Rattle.sal_filter.specs.Limits.{level_in, entry, segment_level, reference_number, mode_delta, with_deltas, level_of, interior_of, threshold_of, limits_of};

@@ -1,7 +1,6 @@
 use Rattle.std.proofs.Common.{◌≡◌, ◌∙◌, ap, refl, ℤ, pos, ◌+ℤ◌, ◌-ℤ◌, ◌*ℤ◌, cond}
 use Rattle.sal_filter.specs.Edges.{s, lost, gained, half_lost}
-use Rattle.sal_filter.proofs.Signed.{held, kept, equal, back_to, on_to, step_to, fits_16}
-use Rattle.sal_filter.proofs.Places.{bytes_of}
+use Rattle.sal_filter.proofs.Signed.{held, kept, equal, back_to, on_to, step_to, fits_16, small_of}
 use Rattle.sal_filter.proofs.Masked.{none_small, choose_to, inner_adjustment, inner_masked}
 use Rattle.sal_filter.proofs.across.inner_where.Goals as goal
 
@@ -9,7 +8,7 @@ pub returns : goal.returns
 unfolding inner_adjustment
 returns c =
     let a = c.args.a in
-    let b = bytes_of a c.requires.signed in
+    let b = small_of a c.requires.signed in
     let t = c.args.steep in
     let f = c.args.moves in
     let w : ℤ = inner_adjustment f t a in

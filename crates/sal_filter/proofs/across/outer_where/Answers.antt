@@ -1,7 +1,6 @@
 use Rattle.std.proofs.Common.{◌≡◌, ◌∙◌, ap, refl, ℤ, pos, ◌+ℤ◌, ◌-ℤ◌, ◌*ℤ◌, cond}
 use Rattle.sal_filter.specs.Edges.{s, lost, gained, part}
-use Rattle.sal_filter.proofs.Signed.{held, kept, equal, back_to, on_to, step_to, fits_16}
-use Rattle.sal_filter.proofs.Places.{bytes_of}
+use Rattle.sal_filter.proofs.Signed.{held, kept, equal, back_to, on_to, step_to, fits_16, small_of}
 use Rattle.sal_filter.proofs.Masked.{none_small, choose_to, outer_adjustment, outer_masked}
 use Rattle.sal_filter.proofs.across.outer_where.Goals as goal
 
@@ -9,7 +8,7 @@ pub returns : goal.returns
 unfolding outer_adjustment
 returns c =
     let a = c.args.a in
-    let b = bytes_of a c.requires.signed in
+    let b = small_of a c.requires.signed in
     let t = c.args.steep in
     let f = c.args.moves in
     let w : ℤ = outer_adjustment f a in
