@@ -45,11 +45,12 @@ pub all_wider : (zs : List ℤ) → All (Within 1048576) zs → All (Within 2097
 all_wider zs h k d lt = wider (get_or zs k d) (h k d lt)
 
 -- a block of one level, and any block
-pub residue_flat : (zs xs : List ℤ) (v : ℤ) (dc ac : ℕ) → All (Within 2114) zs → HasOneLevel zs → v ≡ as_passed (get_or zs 0 (pos 0)) *ℤ pos dc → Within 2097152 v
+pub residue_flat : (zs xs : List ℤ) (v : ℤ) (dc ac : ℕ) → dc ≤ 440 → All (Within 2114) zs → HasOneLevel zs → v ≡ as_passed (get_or zs 0 (pos 0)) *ℤ to_z w32 dc → Within 1048576 v
     → xs ≡ replicate 16 (rounded (as_passed v)) → xs ≡ residue_of zs (pos dc) (pos ac)
-residue_flat zs xs v dc ac levels one e small h =
-    let level : v ≡ get_or zs 0 (pos 0) *ℤ pos dc = e ∙ ap (λ (z : ℤ). z *ℤ pos dc) (level_kept _ (level_within zs 0 levels (cases_lt 0 (length zs)))) in
-    h ∙ (ap (λ (z : ℤ). replicate 16 (rounded z)) (kept_21 v small ∙ level) ∙ sym (flat_residue zs (pos dc) (pos ac) one))
+residue_flat zs xs v dc ac hd levels one e small h =
+    let step : v ≡ as_passed (get_or zs 0 (pos 0)) *ℤ pos dc = e ∙ ap (λ (z : ℤ). as_passed (get_or zs 0 (pos 0)) *ℤ z) (step_kept dc hd) in
+    let level : v ≡ get_or zs 0 (pos 0) *ℤ pos dc = step ∙ ap (λ (z : ℤ). z *ℤ pos dc) (level_kept _ (level_within zs 0 levels (cases_lt 0 (length zs)))) in
+    h ∙ (ap (λ (z : ℤ). replicate 16 (rounded z)) (kept_21 v (wider v small) ∙ level) ∙ sym (flat_residue zs (pos dc) (pos ac) one))
 
 pub residue_any : (zs xs vs : List ℤ) (dc ac : ℕ) → dc ≤ 440 → ac ≤ 440 → vs ≡ dequantised zs (to_z w32 dc) (to_z w32 ac) → xs ≡ inverse_of vs → xs ≡ residue_of zs (pos dc) (pos ac)
 unfolding residue_of

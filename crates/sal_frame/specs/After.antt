@@ -45,7 +45,7 @@ map_after f old =
     if f.header.update_map then map (λ (b : Macroblock). b.mode.segment) f.blocks
     else (if f.header.key then replicate (length f.blocks) 0 else old)
 
--- what the next frame's header and macroblocks are read over (9.3, 9.6, 9.7 and 9.11)
+-- what the next frame's header and macroblocks are read over (9.3, 9.4, 9.7 and 9.11)
 abbrev pub kept_after : Kept → Record → Kept
 kept_after k f =
     let h = f.header in

@@ -1,5 +1,5 @@
 -- All that a frame's bits say. Sections are those of RFC 6386.
-use Rattle.std.specs.Prelude.{ℕ, ℤ, pos, ◌+ℤ◌, List, Bool, not, ◌&&◌, ◌||◌, Some, None, if◌then◌else◌, slice_index_or}
+use Rattle.std.specs.Prelude.{ℕ, ℤ, pos, ◌+ℤ◌, List, Bool, not, ◌&&◌, ◌||◌, Some, None, if◌then◌else◌}
 use Rattle.sal_base.specs.Pictures.{blocks_of}
 use Rattle.sal_header.specs.declared.header.Header.{Header}
 use Rattle.sal_macroblock.specs.declared.mode.MbMode.{MbMode}
@@ -7,6 +7,7 @@ use Rattle.sal_macroblock.specs.Macroblocks.{has_y2}
 use Rattle.sal_transform.specs.Steps.{Steps, steps_of, index_of}
 use Rattle.sal_filter.specs.declared.head.FilterHead.{FilterHead}
 use Rattle.sal_filter.specs.declared.head.MbInfo.{MbInfo}
+use Rattle.sal_filter.specs.Limits.{entry}
 
 -- a macroblock: its modes and vectors, the levels of its 25 blocks, and whether some block's first token isn't the end
 pub record Macroblock : Type 0 where
@@ -28,9 +29,6 @@ pub record Record : Type 0 where
 abbrev pub columns_of : Record → ℕ
 columns_of f = blocks_of f.width
 
-abbrev pub entry : List ℤ → ℕ → ℤ
-entry xs k = slice_index_or xs k (pos 0)
-
 -- a segment's quantiser index: its own, or on top of the frame's; without segmentation the frame's (9.3 and 9.6)
 abbrev pub quantiser_of : Header → ℕ → ℕ
 quantiser_of h segment =
@@ -41,7 +39,7 @@ quantiser_of h segment =
 unfoldable pub segment_steps : Header → ℕ → Steps
 segment_steps h segment = steps_of (quantiser_of h segment) h.y_dc h.y2_dc h.y2_ac h.uv_dc h.uv_ac
 
--- what the loop filter is told of the frame (9.3 and 9.6)
+-- what the loop filter is told of the frame (9.3 and 9.4)
 unfoldable pub filter_head : Header → FilterHead
 filter_head h =
     record {

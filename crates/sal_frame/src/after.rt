@@ -1,4 +1,4 @@
-//! The next state: what is kept for later headers and macroblocks, and the references (RFC 6386, sections 9.3, 9.6, 9.7 and 9.11).
+//! The next state: what is kept for later headers and macroblocks, and the references (RFC 6386, sections 9.3, 9.4, 9.7 and 9.11).
 
 ghost use Rattle.std.specs.Prelude.{◌≡◌, ℕ, IfOk, IfSome, false, Some, if◌then◌else◌};
 ghost use Rattle.std.specs.Arc.{arc_value};

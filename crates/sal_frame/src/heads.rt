@@ -1,4 +1,4 @@
-//! What the loop filter is told of a frame and of its macroblocks (RFC 6386, sections 9.3, 9.6 and 15).
+//! What the loop filter is told of a frame and of its macroblocks (RFC 6386, sections 9.3, 9.4 and 15).
 
 ghost use Rattle.std.specs.Prelude.{◌≡◌, List, ℤ};
 ghost use Rattle.sal_frame.specs.Records.{filter_head, info_of, macroblock};

@@ -1,4 +1,4 @@
-//! The next state (RFC 6386, sections 9.3, 9.6, 9.7 and 9.11).
+//! The next state (RFC 6386, sections 9.3, 9.4, 9.7 and 9.11).
 
 ghost use Rattle.std.specs.Prelude.{◌≡◌, ◌*◌, ◌<◌, All, IfOk, IfSome, true, false, length, None};
 ghost use Rattle.std.specs.Option.{option_copied};

@@ -1,6 +1,6 @@
 //! The residues of a macroblock: its levels times their steps, transformed back (RFC 6386, section 14).
 
-ghost use Rattle.std.specs.Prelude.{◌≡◌, ◌<◌, ◌≤◌, ◌+◌, ◌*ℤ◌, ℕ, Bool, List, ℤ, pos, All, IsTrue, replicate, slice_index_or, []};
+ghost use Rattle.std.specs.Prelude.{◌≡◌, ◌<◌, ◌≤◌, ◌+◌, ℕ, Bool, List, ℤ, pos, All, IsTrue, replicate, slice_index_or, []};
 ghost use Rattle.sal_macroblock.specs.Sizes.{Within};
 ghost use Rattle.sal_transform.specs.Inverse.{rounded};
 ghost use Rattle.sal_transform.specs.Residue.{residue_of, firsts_of, residue_after};
@@ -12,7 +12,7 @@ ghost use Rattle.sal_frame.specs.Small.{HasOneLevel};
 
 use crate::steps::Steps;
 use sal_macroblock::{Block, Levels, MbMode};
-use sal_transform::{dequant, inverse, inverse_y2};
+use sal_transform::{dequant, inverse, inverse_y2, stepped};
 
 // Whether all levels but the first are 0.
 fn has_one_level(block: &Block) -> bool
@@ -35,16 +35,6 @@ fn flat(value: i32) -> [i32; 16]
     [(value + 4) >> 3; 16]
 }
 
-// A level times its step.
-fn stepped(level: i32, step: u16) -> i32
-    requires level { Within 2114 level }
-    requires step { step ≤ 440 }
-    ensures value { result ≡ level *ℤ pos step }
-    ensures small { Within 2097152 result }
-{
-    level * step as i32
-}
-
 // The residues of a block whose first level is its own.
 fn residue(block: &Block, dc: u16, ac: u16) -> [i32; 16]
     requires levels { All (Within 2114) block.now.0 }
@@ -53,7 +43,7 @@ fn residue(block: &Block, dc: u16, ac: u16) -> [i32; 16]
     ensures { result ≡ residue_of block.now.0 (pos dc) (pos ac) }
 {
     if has_one_level(block) {
-        return flat(stepped(block.0[0], dc));
+        return flat(stepped(block.0[0], dc as i32));
     }
     inverse(&dequant(block, dc as i32, ac as i32))
 }

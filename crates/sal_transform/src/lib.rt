@@ -6,5 +6,5 @@ mod quantiser;
 mod wht;
 
 pub use dct::inverse;
-pub use quantiser::dequant;
+pub use quantiser::{dequant, stepped};
 pub use wht::inverse_y2;

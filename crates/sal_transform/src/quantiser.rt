@@ -6,8 +6,8 @@ ghost use Rattle.sal_transform.specs.Steps.{dequantised};
 
 use sal_macroblock::Block;
 
-// A level times its step.
-fn stepped(level: i32, step: i32) -> i32
+/// A level times its step.
+pub fn stepped(level: i32, step: i32) -> i32
     requires level { Within 2114 level }
     requires step { Within 440 step }
     ensures value { result ≡ level *ℤ step }
