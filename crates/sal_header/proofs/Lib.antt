@@ -1,4 +1,5 @@
 pub mod Examples
+mod FullHeaders
 pub mod Placing
 pub mod Putting
 pub mod ReadBack

@@ -32,7 +32,7 @@ kept_deltas kept = record { references = kept.ref_deltas; modes = kept.mode_delt
 abbrev pub data_before : Bool → Kept → SegmentData
 data_before key kept = if key then no_data else kept_data kept
 
--- the filter's deltas that a frame begins with: none in a key frame, else the state's (9.6)
+-- the filter's deltas that a frame begins with: none in a key frame, else the state's (9.4)
 abbrev pub deltas_before : Bool → Kept → Deltas
 deltas_before key kept = if key then no_deltas else kept_deltas kept
 
@@ -58,14 +58,14 @@ segments before = do
   m ← when update_map segment_map (replicate 3 0)
   Done (record { on = on; update_map = update_map; update_data = update_data; «data» = d; map = m })
 
--- the filter's deltas by reference and by mode; those unflagged stay as they were (9.6)
+-- the filter's deltas by reference and by mode; those unflagged stay as they were (9.4)
 unfoldable pub filter_deltas : Deltas → Syntax Deltas
 filter_deltas before = do
   references ← each (flagged (signed_literal 6)) before.references
   modes ← each (flagged (signed_literal 6)) before.modes
   Done (record { references = references; modes = modes })
 
--- the loop filter (9.6)
+-- the loop filter (9.4)
 unfoldable pub filtering : Deltas → Syntax Filtering
 filtering before = do
   simple ← flag

@@ -56,7 +56,7 @@ segments_pairs s =
     flag_pairs s.on ++ (pairs_when s.on (flag_pairs s.update_map) ++ (pairs_when s.on (flag_pairs s.update_data)
     ++ (pairs_when s.update_data (data_pairs s.«data») ++ (pairs_when s.update_map (all_pairs map_pairs s.map) ++ []))))
 
--- a delta of the filter always has its flag (9.6)
+-- a delta of the filter always has its flag (9.4)
 abbrev pub delta_pairs : ℤ → Pairs
 delta_pairs y = flag_pairs true ++ signed_pairs 6 y
 
@@ -131,7 +131,7 @@ pub record AreDeltas (d : Deltas) : Type 0 where
   pub references : AreEach (IsShort 6) 4 d.references
   pub modes : AreEach (IsShort 6) 4 d.modes
 
--- a filter that can be written where a frame begins with these deltas (9.6)
+-- a filter that can be written where a frame begins with these deltas (9.4)
 pub record IsFiltering (before : Deltas) (f : Filtering) : Type 0 where
   pub level : f.level < 2 ^ 6
   pub sharpness : f.sharpness < 2 ^ 3

@@ -12,9 +12,9 @@ pub struct Kept {
     pub quantisers: [i8; 4],
     /// The filter levels of the segments.
     pub levels: [i8; 4],
-    /// The filter's deltas for intra, last, golden and alt (section 9.6).
+    /// The filter's deltas for intra, last, golden and alt (section 9.4).
     pub ref_deltas: [i8; 4],
-    /// The filter's deltas for B, zero, other and split vectors (section 9.6).
+    /// The filter's deltas for B, zero, other and split vectors (section 9.4).
     pub mode_deltas: [i8; 4],
     /// Whether vectors on golden are turned round (section 9.7).
     pub bias_golden: bool,

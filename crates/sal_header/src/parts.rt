@@ -18,14 +18,14 @@ pub(crate) struct Segments {
     pub map: [u8; 3],
 }
 
-/// The filter's deltas (section 9.6).
+/// The filter's deltas (section 9.4).
 #[derive(Clone, Copy)]
 pub(crate) struct Deltas {
     pub references: [i8; 4],
     pub modes: [i8; 4],
 }
 
-/// The loop filter (section 9.6).
+/// The loop filter (section 9.4).
 #[derive(Clone, Copy)]
 pub(crate) struct Filtering {
     pub simple: bool,

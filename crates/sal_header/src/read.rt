@@ -136,7 +136,7 @@ fn segment_map_when(decoder: &mut Decoder<'_>, there: bool) -> [u8; 3]
     }
 }
 
-// The loop filter (9.6).
+// The loop filter (9.4).
 fn read_filtering(decoder: &mut Decoder<'_>, before: &Deltas) -> Filtering
     ensures reads { run (filtering before.now) decoder.old ≡ (result, decoder.new) }
     ensures level { result.level ≤ 63 }

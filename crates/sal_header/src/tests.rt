@@ -349,6 +349,62 @@ fn full() -> Header
     }
 }
 
+/// A key frame's header with every field that it has and every kind of update, none of them a default.
+fn full_key() -> Header
+    ensures { (kept : Kept) × IsWritable kept result }
+{
+    let mut coefficients = [Some(200); 1056];
+    coefficients[0] = Some(0);
+    coefficients[527] = None;
+    coefficients[1055] = Some(255);
+    Header {
+        key: true,
+        shown: false,
+        colour: true,
+        clamping: true,
+        segmentation: true,
+        update_map: true,
+        update_data: true,
+        absolute: true,
+        simple: true,
+        deltas: true,
+        update_deltas: true,
+        refresh_entropy: true,
+        refresh_golden: false,
+        refresh_alt: false,
+        bias_golden: false,
+        bias_alt: false,
+        refresh_last: false,
+        skips: true,
+        quantisers: [127, -127, 0, 1],
+        levels: [-63, 63, 1, 0],
+        ref_deltas: [63, -1, 1, -63],
+        mode_deltas: [-7, 63, -63, 2],
+        map: [254, 0, 255],
+        level: 62,
+        sharpness: 6,
+        log2: 3,
+        y_ac: 126,
+        copy_golden: 0,
+        copy_alt: 0,
+        prob_skip: 1,
+        prob_intra: 0,
+        prob_last: 0,
+        prob_golden: 0,
+        y_dc: 15,
+        y2_dc: -15,
+        y2_ac: 1,
+        uv_dc: -1,
+        uv_ac: 8,
+        updates: Updates {
+            coefficients,
+            vectors: [None; 38],
+            y: None,
+            chroma: None,
+        },
+    }
+}
+
 /// The header once more, read from the bytes that it is written as.
 fn again(alloc: Global, header: &Header, kept: &Kept) -> Option<Header>
     requires { (kept : Kept) × IsWritable kept header.now }
@@ -364,6 +420,25 @@ fn again(alloc: Global, header: &Header, kept: &Kept) -> Option<Header>
         height: 0,
     };
     Some(read_header(&mut Decoder::new(bytes.as_slice()), &tag, kept))
+}
+
+#[test]
+fn a_full_key_header_is_read_back(rt: HostRuntime) {
+    let alloc = rt.alloc();
+    let Some(kept) = kept(alloc) else {
+        panic!(rt; "no memory");
+    };
+    let header = full_key();
+    let Some(read) = again(alloc, &header, &kept) else {
+        panic!(rt; "no header");
+    };
+    assert_eq!(rt; fields(&read), fields(&header));
+    assert_eq!(rt;
+        read.updates.coefficients.as_slice(),
+        header.updates.coefficients.as_slice()
+    );
+    assert!(rt; read.updates.vectors.iter().all(|u| u.is_none()));
+    assert_eq!(rt; (read.updates.y, read.updates.chroma), (None, None));
 }
 
 #[test]

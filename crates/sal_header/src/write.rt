@@ -157,7 +157,7 @@ fn put_map_when(encoder: &mut Encoder, there: bool, map: &[u8; 3]) -> Result<(),
     }
 }
 
-// The loop filter (9.6).
+// The loop filter (9.4).
 fn put_filtering(encoder: &mut Encoder, filtering: &Filtering) -> Result<(), Memory>
     ensures { OnOk result (encoder.new ≡ steps encoder.old (filtering_pairs filtering.now)) }
 {

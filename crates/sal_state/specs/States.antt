@@ -20,7 +20,7 @@ pub record StateData : Type 0 where
   pub kept : Kept
   pub references : Option References
 
--- what a key frame begins with: default probabilities, all else 0 (9.3, 9.6, 9.7 and 9.11); of no size, so without a map
+-- what a key frame begins with: default probabilities, all else 0 (9.3, 9.4, 9.7 and 9.11); of no size, so without a map
 unfoldable pub initial_kept : Kept
 initial_kept = record { absolute = false; quantisers = zeros; levels = zeros; ref_deltas = zeros; mode_deltas = zeros; bias_golden = false; bias_alt = false; map = []; probs = initial_table }
 

@@ -1,20 +1,8 @@
-use Rattle.std.proofs.Common.{◌≡◌, ℕ, suc, zero, [], true, false, Option, Some, IfSome, refl, sym, replicate, inr, lit<, lit≤, pos}
+use Rattle.std.proofs.Common.{ℕ, Option, Some, IfSome, refl, sym, inr, lit<, lit≤}
 use Rattle.std.proofs.lemmas.List.{length-replicate}
-use Rattle.sal_base.specs.Lists.{Each}
-use Rattle.sal_probs.specs.Probabilities.{initial_table}
-use Rattle.sal_header.specs.declared.header.Kept.{Kept}
 use Rattle.sal_header.specs.Written.{IsBelow, IsVectorProbability}
+use Rattle.sal_header.proofs.FullHeaders.{impossible, each_same, some_kept}
 use Rattle.sal_header.proofs.tests.full.Goals as goal
-
-impossible : {X : Type 0} → true ≡ false → X
-impossible e = let f : ⊥ = cc in absurd f
-
-each_same : {X : Type 0} (P : X → Type 0) (d : X) → P d → (n : ℕ) → Each P (replicate n d)
-each_same P d h zero = tt
-each_same P d h (suc n) = (h, each_same P d h n)
-
-some_kept : Kept
-some_kept = record { absolute = false; quantisers = replicate 4 (pos 0); levels = replicate 4 (pos 0); ref_deltas = replicate 4 (pos 0); mode_deltas = replicate 4 (pos 0); bias_golden = false; bias_alt = false; map = []; probs = initial_table }
 
 byte_fits : IfSome (Some 200) (IsBelow 8)
 byte_fits = lit< tt
@@ -23,7 +11,6 @@ vector_fits : IfSome (Some 254) IsVectorProbability
 vector_fits = inr (refl, lit≤ tt, lit≤ tt)
 
 pub returns : goal.returns
-unfolding some_kept
 returns c = (
   some_kept,
   record {
