@@ -75,12 +75,14 @@ fn decode_frame(
 
 /// Decodes a frame: the next state, the picture cut to its size, and whether it is shown (RFC 6386, sections 9 to 20).
 ///
-/// `Bad` has the first fault of the bytes, in the order in which a decoder meets them; past the end of a partition there are
-/// zeros, so nothing but the faults of tag, size and partitions refuses a frame. `Memory` is the only other error. The state that
-/// the frame is decoded from stays as it is, and the next one shares the references that it keeps.
+/// `Bad` has the first fault of the bytes, in the order in which a decoder meets them, exactly where there is one: it is met before
+/// any memory is taken. Past the end of a partition there are zeros, so nothing but the faults of tag, size and partitions refuses
+/// a frame. `Memory` is the only other error. The state that the frame is decoded from stays as it is, and the next one shares the
+/// references that it keeps.
 pub fn decode(alloc: Global, state: &State, bytes: &[u8]) -> Result<Decoded<State>, DecodeFault>
     ensures decoded { IfOk result (λ d. decode_of state.now bytes.now ≡ Ok d) }
     ensures fault { (f : FaultData) → result ≡ Err (Bad f) → decode_of state.now bytes.now ≡ Err f }
+    ensures refused { (f : FaultData) → decode_of state.now bytes.now ≡ Err f → result ≡ Err (Bad f) }
 {
     let head = match read_head(state, bytes) {
         Ok(head) => head,
