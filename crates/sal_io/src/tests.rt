@@ -115,6 +115,8 @@ fn adapters_over_std(rt: HostRuntime) -> Result<(), Fail> {
     assert_eq!(rt; output.write(b"abc"), Wrote::Wrote(2));
     assert_eq!(rt; output.write(b"c"), Wrote::Failed);
     assert_eq!(rt; output.faults(), 1);
+    drop(output);
+    assert_eq!(rt; room, *b"ab");
     Ok(())
 }
 
@@ -138,5 +140,18 @@ fn shelf_of_files(rt: HostRuntime) -> Result<(), Fail> {
     assert_eq!(rt; full.faults(), 1);
     shelf.shut_in(zeros);
     shelf.shut_out(full);
+    Ok(())
+}
+
+#[test]
+fn created_file_takes_bytes(rt: HostRuntime) -> Result<(), Fail> {
+    let alloc = rt.alloc();
+    let mut shelf = StdShelf::new(&rt, alloc);
+    let Ok(mut sink) = shelf.create(alloc, "/dev/null") else {
+        panic!(rt; "not created");
+    };
+    assert_eq!(rt; put_parts(&mut sink, &[b"ab", b"", b"cde"]), Put::Done);
+    assert_eq!(rt; (sink.faults(), shelf.faults()), (0, 0));
+    shelf.shut_out(sink);
     Ok(())
 }

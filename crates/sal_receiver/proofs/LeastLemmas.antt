@@ -28,7 +28,7 @@ low_step n None more k ih none (inr has) = absurd (none refl has)
 low_step n (Some j) more k ih none (inl e) = omega (arith, e)
 low_step n (Some j) more k ih none (inr has) = let a : j ≤ k = ih j refl has in omega arith
 
-least_none : (xs : List ℕ) (k : ℕ) → least xs ≡ None → Has xs k → ⊥
+pub least_none : (xs : List ℕ) (k : ℕ) → least xs ≡ None → Has xs k → ⊥
 least_none [] k h has = has
 least_none (x ∷ xs) k h has = absurd (cc)
 

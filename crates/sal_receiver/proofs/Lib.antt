@@ -1,7 +1,7 @@
 mod FrameLemmas
 pub mod PartsLemmas
-mod Lasting
-mod LeastLemmas
+pub mod Lasting
+pub mod LeastLemmas
 mod LabelLemmas
 mod Entering
 mod Entered

@@ -105,7 +105,8 @@ impl<C: Codec> Decoding<C> {
 
     /// What came of it.
     pub fn outcome(&self) -> &Outcome<C::State>
-        ensures { outcome_seen result.now ≡ self.now.outcome }
+        ensures outcome { outcome_seen result.now ≡ self.now.outcome }
+        ensures shared { IsShared C.coding result.now }
     {
         &self.outcome
     }
