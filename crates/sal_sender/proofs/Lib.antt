@@ -20,5 +20,6 @@ pub mod Choosings
 pub mod ChosenAcked
 pub mod ChosenFound
 pub mod ChosenKeeps
+pub mod ChosenLacks
 pub mod ChosenSays
 pub mod ChosenSent

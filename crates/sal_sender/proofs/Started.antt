@@ -20,7 +20,7 @@ use Rattle.sal_sender.specs.OneThread.{Session}
 use Rattle.sal_sender.specs.Acks.{acknowledged, safe, lost, heard}
 use Rattle.sal_sender.specs.Jobs.{Job, kind_of, jobs, base, is_spared, coarse_job, spare_job, fine_job}
 use Rattle.sal_sender.specs.Choosing.{reported, first_of}
-use Rattle.sal_sender.specs.Answers.{jobs_after, next_answer, is_taken, is_out, waiting_jobs}
+use Rattle.sal_sender.specs.Answers.{jobs_after, starts, next_answer, is_taken, is_out, waiting_jobs}
 use Rattle.sal_sender.specs.Promises.{IsLegal}
 use Rattle.sal_sender.specs.Links.{links_of, choices_from}
 use Rattle.sal_sender.specs.Planned.{safe_of, base_of, plan_of, fine_id, coarse_q, seats_of, kind_from, state_from, work_from, queue_of, after_start}
@@ -307,3 +307,11 @@ pub start_answered : {S : Type 0} (codec : Coding S) (m new : Machine S) (inside
 start_answered codec m new inside past picture moment count b s view told shut few own after =
     let both = start_taken codec m m past picture moment count refl s (sym view ∙ none_if b inside told shut) (λ (q : m.pictures ≡ 1048575). omega arith) own in
     (inl both.0, subst (λ v. Stands codec v (NextPicture picture moment (Started count) ∷ past)) (sym after) both.1)
+
+-- of a picture that isn't started for want of memory
+pub may_start : {S : Type 0} (codec : Coding S) (m : Machine S) (inside : Option (Open (Ran S))) (past : Past) (b : Bool) → Stands codec m past → inside ≡ m.seats → b ≡ is_some inside → b ≡ false → m.pictures < 1048575 → starts (next_answer past) ≡ true
+may_start codec m inside past b s view told shut few =
+    let free : opened past ≡ None = none_open codec past m s.keeps (sym view ∙ none_if b inside told shut) in
+    let count : m.pictures ≡ length (pictures past) = s.keeps.pictures_is in
+    let room : eqb (length (pictures past)) 1048575 ≡ false = ne_eqb (length (pictures past)) 1048575 (λ (q : length (pictures past) ≡ 1048575). omega arith) in
+    rw (free, room) refl

@@ -123,3 +123,11 @@ closes (Waiting id) = false
 closes (Sent choice burst) = true
 closes (Nothing budget sizes) = true
 closes ChosenMemory = false
+
+-- whether a frame is sent
+abbrev pub sends : Chosen → Bool
+sends NoPicture = false
+sends (Waiting id) = false
+sends (Sent choice burst) = true
+sends (Nothing budget sizes) = false
+sends ChosenMemory = false

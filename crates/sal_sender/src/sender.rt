@@ -11,7 +11,8 @@ ghost use Rattle.sal_sender.specs.declared.choice.JobRole.TheVariants.{Spare};
 ghost use Rattle.sal_sender.specs.declared.answers.Reported.TheVariants.{Stranger};
 ghost use Rattle.sal_sender.specs.declared.answers.Ignore.{Ignore as IgnoreData};
 ghost use Rattle.sal_sender.specs.declared.answers.HeardAck.TheVariants.{Ignored};
-ghost use Rattle.sal_sender.specs.Answers.{starts};
+ghost use Rattle.sal_sender.specs.Answers.{starts, sends, next_answer};
+ghost use Rattle.sal_sender.specs.Choosing.{chosen};
 ghost use Rattle.sal_sender.specs.Seats.{listed, first_in};
 ghost use Rattle.sal_wire.specs.Reading.{came};
 ghost use Rattle.sal_sender.specs.Hearing.{judged, after_ack};
@@ -350,11 +351,12 @@ impl<C: Codec> Sender<C> {
         Ok(count)
     }
 
-    /// Starts a picture of the session's size, whose jobs then wait to be handed out; all memory is taken here.
+    /// Starts a picture of the session's size, whose jobs then wait to be handed out; all memory is taken here, after all tests.
     pub fn next_picture(&mut self, picture: Arc<Picture>, moment: u64) -> Next
         requires size { HasSides self.old.session.head.width self.old.session.head.height (arc_value picture) }
         ensures answered { Answered C.coding self.old.session (Stands C.coding) self.old self.new (NextPicture (arc_value picture) moment result) }
         ensures refused { starts result ≡ false → self.new ≡ self.old }
+        ensures memory { (past : Past) → Stands C.coding self.old past → result ≡ Next.Memory → starts (next_answer past) ≡ true }
         ensures session { self.new.session ≡ self.old.session }
     {
         if self.open.is_some() {
@@ -487,10 +489,12 @@ impl<C: Codec> Sender<C> {
     }
 
     /// Chooses among the reports of the open picture, at a moment in microseconds: sends the first eligible frame that fits what may
-    /// be sent now, or closes the picture where none fits. It waits for the report that is needed; want of memory changes nothing.
+    /// be sent now, or closes the picture where none fits. It waits for the report that is needed. Memory is taken only for a frame
+    /// that is sent, and want of it changes nothing.
     pub fn choose(&mut self, moment: u64) -> Chosen
         ensures answered { Answered C.coding self.old.session (Stands C.coding) self.old self.new (Choose moment result) }
         ensures refused { closes result ≡ false → self.new ≡ self.old }
+        ensures memory { (past : Past) → Stands C.coding self.old past → result ≡ Chosen.Memory → sends (chosen C.coding self.old.session past moment) ≡ true }
         ensures session { self.new.session ≡ self.old.session }
     {
         let Some(picture) = &self.open else {

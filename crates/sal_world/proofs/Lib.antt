@@ -17,6 +17,7 @@ pub mod Receiving
 pub mod Delivering
 pub mod Kept
 pub mod Played
+pub mod Emptied
 pub mod Legal
 pub mod FromInvariant
 pub mod Stepping

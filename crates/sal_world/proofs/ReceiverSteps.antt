@@ -1,5 +1,5 @@
 -- What a call of the receiver makes of the world.
-use Rattle.std.proofs.Common.{◌≡◌, ℕ, Bool, true, false, cond, not, List, [], ◌∷◌, ◌++◌, length, map, Option, Some, None, Result, Ok, Err, IsTrue, refl, ap, sym, ◌∙◌, subst, ◌⊎◌, inl, inr}
+use Rattle.std.proofs.Common.{◌≡◌, ℕ, Bool, true, false, cond, not, List, [], ◌∷◌, ◌++◌, length, map, Option, Some, None, is_some, Result, Ok, Err, IsTrue, refl, ap, sym, ◌∙◌, subst, ◌⊎◌, inl, inr}
 use Rattle.std.specs.Prelude.{option_and_then, IfSome}
 use Rattle.std.specs.Option.{option_map}
 use Rattle.sal_base.specs.declared.coding.Fault.{Fault}
@@ -141,6 +141,10 @@ module _ {S : Type 0} (codec : Coding S) (session : Session) where
   -- of what came from the list of datagrams
   there_is : (x : Both S) (w : World S) (which n : ℕ) (bytes : List ℕ) → IsWorld codec session x w → member x.sent n ≡ Some bytes → n ≡ which → member (sent w) which ≡ Some bytes
   there_is x w which n bytes is there own = ap (λ ts. member ts which) (sym is.sent_are) ∙ (ap (λ k. member x.sent k) (sym own) ∙ there)
+
+  -- a datagram of that number is there
+  pub down_there : (x b : Both S) (w : World S) (which n : ℕ) (bytes : List ℕ) → x ≡ b → IsWorld codec session b w → member x.sent n ≡ Some bytes → n ≡ which → is_some (member (sent w) which) ≡ true
+  down_there x b w which n bytes view seen there own = ap is_some (there_is x w which n bytes (opened codec session x b w view seen) there own)
 
 module _ {C S : Type 0} (codec : Coding S) (session : Session) where
   abbrev Did : Both S → World S → Event → Answer C S → Type 0

@@ -73,6 +73,12 @@ module _ {C S : Type 0} where
   said_step false true k n = refl
   said_step false false k n = refl
 
+  lacked : (answer : Start) → said answer ≡ Memory → answer ≡ StartMemory
+  lacked (Started jobs) h = absurd (cc)
+  lacked (NotChosen n) h = absurd (cc)
+  lacked Full h = absurd (cc)
+  lacked StartMemory h = refl
+
   said_next : (past : Past) → said (next_answer past) ≡ NextSaid (next_answer past)
   said_next past = said_step (is_some (opened past)) (eqb (length (pictures past)) 1048575) (length (pictures past)) (length (jobs past))
 
@@ -100,6 +106,10 @@ module _ {C S : Type 0} (codec : Coding S) (session : Session) where
             )
             | inr e ↦ inl (ap (λ a. said a) e)
           ]
+
+  -- a picture that isn't started for want of memory
+  pub next_lacks : (x b : Both S) (w : World S) (answer : Start) (out : Answer C S) → x ≡ b → IsWorld codec session b w → out ≡ next_said answer → ((past : Past) → SenderStands codec x.sender past → answer ≡ StartMemory → starts (next_answer past) ≡ true) → out ≡ Memory → starts (next_answer w.sender) ≡ true
+  next_lacks x b w answer out view seen is may h = may w.sender (opened_world codec session x b w view seen).sender (lacked answer (sym is ∙ h))
 
   -- a job that is handed out
   pub take_happens : (x b : Both S) (m : Machine S) (w : World S) (job : Option (Work S)) → x ≡ b → IsWorld codec session b w → job ≡ first_in (listed x.sender.waiting) → Answered codec x.sender.session (SenderStands codec) x.sender m (TakeJob (option_map (λ (j : Work S). j.id) job)) → m.session ≡ x.sender.session → Did (record x { sender = m }) w Take (TakeSaid job)

@@ -1,5 +1,5 @@
 -- What a step makes of the events, and what it is answered where names differ.
-use Rattle.std.proofs.Common.{◌≡◌, ℕ, List, [], ◌∷◌, Option, Some, None, refl, ap, sym, ◌∙◌, subst, ◌⊎◌, inl, inr}
+use Rattle.std.proofs.Common.{◌≡◌, ℕ, true, List, [], ◌∷◌, Option, Some, None, refl, ap, sym, ◌∙◌, subst, ◌⊎◌, inl, inr}
 use Rattle.sal_base.specs.Lists.{Each}
 use Rattle.sal_codec.specs.Coding.{Coding, IsLawful}
 use Rattle.sal_wire.specs.declared.datagram.Ack.{Ack}
@@ -26,7 +26,7 @@ use Rattle.sal_world.proofs.OwnFrames.{own_frame}
 use Rattle.sal_world.specs.World.{Event, Next, Take, Reports, Chooses, Down, Up, Ready, Decodes, Moment, World, sent, acks, member, delivers, hears, happens, after}
 use Rattle.sal_world.specs.Promises.{IsSession, IsOfSize, Names, Holds, NothingIsRefused}
 use Rattle.sal_world.specs.Both.{Both}
-use Rattle.sal_world.specs.Answers.{said, chosen_said, down_answer, up_answer, answer_to, IsHonest}
+use Rattle.sal_world.specs.Answers.{said, takes_memory, chosen_said, down_answer, up_answer, answer_to, IsHonest}
 use Rattle.sal_world.specs.Stands.{IsWorld, Stands, IsFit, May, Happened, Stepped}
 
 module _ {S : Type 0} (codec : Coding S) (session : Session) where
@@ -78,6 +78,9 @@ module _ {C S : Type 0} (codec : Coding S) (session : Session) where
 
   pub said_as : (new : Both S) (w : World S) (event given : Given C S) (answer : Answer C S) → event ≡ given → Happened codec session new w (said given) answer → Happened codec session new w (said event) answer
   said_as new w event given answer e did = subst (λ v. Happened codec session new w (said v) answer) (sym e) did
+
+  pub takes_as : (w : World S) (event given : Given C S) → event ≡ given → takes_memory w (said given) ≡ true → takes_memory w (said event) ≡ true
+  takes_as w event given e h = ap (λ v. takes_memory w (said v)) e ∙ h
 
   -- ---- the events
 

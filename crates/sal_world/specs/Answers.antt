@@ -1,5 +1,5 @@
 -- What an event is answered.
-use Rattle.std.specs.Prelude.{ℕ, max, Bool, true, false, not, List, length, Option, Some, None, is_none}
+use Rattle.std.specs.Prelude.{ℕ, max, Bool, true, false, not, List, length, Option, Some, None, is_some, is_none}
 use Rattle.std.specs.Arc.{arc_value}
 use Rattle.sal_codec.specs.Coding.{Coding}
 use Rattle.sal_wire.specs.declared.datagram.Ack.{Ack}
@@ -126,6 +126,18 @@ module _ {C S : Type 0} (codec : Coding S) (session : Session) where
   answer_to w Ready = ReadySaid (next_frame codec w.receiver)
   answer_to w (Decodes n ran) = DecodedSaid (decoded_answer codec w.receiver n (decoding_of codec (ready codec w.receiver n) (frame w.receiver n) ran))
   answer_to w (Moment moment) = MomentSaid (max moment w.moment)
+
+-- whether an event takes memory: a picture that is started, a choice, and a datagram that there is
+abbrev pub takes_memory : {S : Type 0} → World S → Event → Bool
+takes_memory w (Next picture) = starts (next_answer w.sender)
+takes_memory w Take = false
+takes_memory w (Reports job ran) = false
+takes_memory w Chooses = true
+takes_memory w (Down which) = is_some (member (sent w) which)
+takes_memory w (Up which) = false
+takes_memory w Ready = false
+takes_memory w (Decodes n ran) = false
+takes_memory w (Moment moment) = false
 
 module _ {C S : Type 0} where
   -- an answer in a world whose names differ: no datagram is refused, no acknowledgement is ignored but as old, and no

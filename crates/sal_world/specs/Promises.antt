@@ -1,5 +1,5 @@
 -- What holds of the world, whatever is lost, repeated or reordered.
-use Rattle.std.specs.Prelude.{◌≡◌, ℕ, ◌<◌, ◌≤◌, ◌^◌, Bool, List, ◌∷◌, ◌++◌, find, Option, Some, IsSome, Ok, ◌==◌}
+use Rattle.std.specs.Prelude.{◌≡◌, ◌⊎◌, ℕ, ◌<◌, ◌≤◌, ◌^◌, Bool, false, List, ◌∷◌, ◌++◌, find, Option, Some, IsSome, Ok, ◌==◌}
 use Rattle.sal_base.specs.declared.picture.Picture.{Picture}
 use Rattle.sal_base.specs.declared.coding.Decoded.{Decoded}
 use Rattle.sal_base.specs.Lists.{Has, Each}
@@ -20,7 +20,8 @@ use Rattle.sal_sender.specs.Machine.{IsHead}
 use Rattle.sal_sender.specs.Promises.{IsWhatOneThreadSends, FitsItsBudget}
 use Rattle.sal_receiver.specs.Past.{Call, Deliver, shown, floor}
 use Rattle.sal_receiver.specs.Held.{held_under}
-use Rattle.sal_receiver.specs.Promises.{ReadyIsServed, AreFit, IsTaken}
+use Rattle.sal_receiver.specs.Promises.{ReadyIsServed, AreFit, IsTaken, WasShown, WasOlder}
+use Rattle.sal_receiver.specs.Ready.{ready, waits, is_out}
 use Rattle.sal_world.specs.World.{Event, Next, Reports, World, sent, happens, after}
 
 -- the numbers of a session are those of their types, and its head is one
@@ -91,6 +92,16 @@ module _ {S : Type 0} (codec : Coding S) where
       → Has (acknowledged before) choice.source
       → floor w.receiver ≤ choice.source
       → IsSome (held_under codec w.receiver (name_in codec (state_at codec w.sender choice.source)))
+
+module _ {S : Type 0} (codec : Coding S) where
+  -- no frame waits to be handed out, and none is out
+  pub record NothingIsLeft (past : List (Call S)) : Type 0 where
+    pub waits : (n : ℕ) → waits codec past n ≡ false
+    pub out : (n : ℕ) → is_out past n ≡ false
+
+  -- each ready frame was shown, or was answered that a number at least as great was
+  abbrev pub AllIsServed : List (Call S) → Type 0
+  AllIsServed past = (n : ℕ) → IsSome (ready codec past n) → WasShown past n ⊎ WasOlder past n
 
 module _ {S : Type 0} (codec : Coding S) (session : Session) where
   -- a report that is late changes neither the chain nor its states nor what is sent

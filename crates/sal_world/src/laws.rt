@@ -6,7 +6,7 @@ ghost use Rattle.sal_base.specs.Lists.{Each};
 ghost use Rattle.sal_sender.specs.OneThread.{Session};
 ghost use Rattle.sal_sender.specs.Promises.{IsWhatOneThreadSends, FitsItsBudget};
 ghost use Rattle.sal_world.specs.World.{Event, after};
-ghost use Rattle.sal_world.specs.Promises.{IsSession, HasSize, Names, Holds, AllInterleavings};
+ghost use Rattle.sal_world.specs.Promises.{IsSession, HasSize, Names, Holds, AllInterleavings, NothingIsLeft, AllIsServed};
 ghost use Rattle.sal_world.specs.Invariant.{Invariant, IsKept, HoldsEverywhere};
 ghost use Rattle.sal_script.specs.declared.line.ScriptLine.{ScriptLine};
 ghost use Rattle.sal_world.specs.Script.{Run, begun, played};
@@ -47,6 +47,15 @@ pub fn keeps_every_promise<C: Codec>()
 /// What the lines of a script make of the world keeps all promises.
 pub fn a_script_keeps_every_promise<C: Codec>()
     ensures { (session : Session) → IsSession session → (pictures : List Picture) → Each (HasSize session) pictures → (lines : List ScriptLine) (run : Run C.State) → played C.coding session lines (Some (begun pictures)) ≡ Some run → Names C.coding run.world → Holds C.coding session run.world }
+{
+    keeps_the_law::<C>()
+}
+
+/// After the lines of a script no frame waits to be decoded and none is out: each frame that was ready was shown, or a
+/// number at least as great was.
+pub fn a_script_leaves_nothing_ready<C: Codec>()
+    ensures left { (session : Session) (pictures : List Picture) (lines : List ScriptLine) (run : Run C.State) → played C.coding session lines (Some (begun pictures)) ≡ Some run → NothingIsLeft C.coding run.world.receiver }
+    ensures served { (session : Session) → IsSession session → (pictures : List Picture) → Each (HasSize session) pictures → (lines : List ScriptLine) (run : Run C.State) → played C.coding session lines (Some (begun pictures)) ≡ Some run → Names C.coding run.world → AllIsServed C.coding run.world.receiver }
 {
     keeps_the_law::<C>()
 }

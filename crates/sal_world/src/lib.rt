@@ -8,8 +8,8 @@ mod world;
 
 pub use event::{Answer, Event};
 pub use laws::{
-    a_script_keeps_every_promise, each_event_keeps_the_invariant, keeps_every_promise,
-    keeps_its_promises, sends_in_every_world,
+    a_script_keeps_every_promise, a_script_leaves_nothing_ready, each_event_keeps_the_invariant,
+    keeps_every_promise, keeps_its_promises, sends_in_every_world,
 };
 pub use world::World;
 

@@ -1,3 +1,7 @@
+ghost use Rattle.std.specs.Prelude.{[]};
+ghost use Rattle.sal_sender.specs.OneThread.{Session};
+ghost use Rattle.sal_world.specs.Stands.{Stands};
+
 use super::*;
 use sal_codec::{Codec, Plain};
 use sal_y4m::Head;
@@ -21,10 +25,79 @@ fn first_down<C: Codec>(alloc: Global, codec: C, which: u32) -> Option<(u64, u64
     }
 }
 
+// What a new world answers.
+#[derive(Clone, Copy, Debug, PartialEq, Eq)]
+enum First {
+    Moment(u64),
+    NoJob,
+    NoFrame,
+    Other,
+}
+
+fn kind<C: Codec>(answer: &Answer<C>) -> First {
+    match answer {
+        Answer::Moment(moment) => First::Moment(*moment),
+        Answer::Take(None) => First::NoJob,
+        Answer::Ready(None) => First::NoFrame,
+        _ => First::Other,
+    }
+}
+
+// What a new world answers to a moment.
+fn passes<C: Codec>(mut world: World<C>, moment: u64) -> First
+    requires { (session : Session) × Stands C.coding session world [] }
+{
+    kind(&world.step(Event::Moment(moment)))
+}
+
+// What a new world answers where a job is asked for.
+fn takes<C: Codec>(mut world: World<C>) -> First
+    requires { (session : Session) × Stands C.coding session world [] }
+{
+    kind(&world.step(Event::Take))
+}
+
+// What a new world answers where a frame is asked for.
+fn hands_out<C: Codec>(mut world: World<C>) -> First
+    requires { (session : Session) × Stands C.coding session world [] }
+{
+    kind(&world.step(Event::Ready))
+}
+
+fn first_moment<C: Codec>(alloc: Global, codec: C, moment: u64) -> First {
+    match World::new(alloc, codec, HEAD) {
+        Ok(world) => passes(world, moment),
+        Err(_) => First::Other,
+    }
+}
+
+fn first_job<C: Codec>(alloc: Global, codec: C) -> First {
+    match World::new(alloc, codec, HEAD) {
+        Ok(world) => takes(world),
+        Err(_) => First::Other,
+    }
+}
+
+fn first_frame<C: Codec>(alloc: Global, codec: C) -> First {
+    match World::new(alloc, codec, HEAD) {
+        Ok(world) => hands_out(world),
+        Err(_) => First::Other,
+    }
+}
+
 #[test]
 fn before_anything_is_sent(rt: HostRuntime) -> Result<(), Fail> {
     let alloc = rt.alloc();
     assert_eq!(rt; first_down(alloc, Plain, 0), Some((0, 0)));
     assert_eq!(rt; first_down(alloc, Plain, 1), Some((1, 0)));
+    Ok(())
+}
+
+#[test]
+fn before_any_picture(rt: HostRuntime) -> Result<(), Fail> {
+    let alloc = rt.alloc();
+    assert_eq!(rt; first_moment(alloc, Plain, 5), First::Moment(5));
+    assert_eq!(rt; first_job(alloc, Plain), First::NoJob);
+    assert_eq!(rt; first_frame(alloc, Plain), First::NoFrame);
     Ok(())
 }

@@ -1,18 +1,19 @@
 //! Both ends in one world.
 
-ghost use Rattle.std.specs.Prelude.{◌≡◌, ◌+◌, ◌<◌, ◌≤◌, ◌^◌, [], ◌∷◌, ◌++◌, true, not, List, length, IfOk, vec_len, vec_capacity};
+ghost use Rattle.std.specs.Prelude.{◌≡◌, ◌≢◌, ◌+◌, ◌<◌, ◌≤◌, ◌^◌, [], ◌∷◌, ◌++◌, true, not, is_some, List, length, IfOk, vec_len, vec_capacity};
 ghost use Rattle.std.specs.Arc.{arc_value};
 ghost use Rattle.std.specs.Option.{option_copied, option_map};
 ghost use Rattle.sal_codec.specs.Coding.{HasSides};
 ghost use Rattle.sal_sender.specs.Machine.{IsHead};
 ghost use Rattle.sal_sender.specs.OneThread.{Session};
 ghost use Rattle.sal_sender.specs.Choosing.{first_of};
-ghost use Rattle.sal_sender.specs.Answers.{starts, waiting_jobs};
+ghost use Rattle.sal_sender.specs.Answers.{starts, next_answer, waiting_jobs};
 ghost use Rattle.sal_sender.specs.Stands.{IsOwnWork};
 ghost use Rattle.sal_receiver.specs.Work.{IsOwn};
 ghost use Rattle.sal_world.specs.World.{World as WorldOf, Event as EventOf, member, sent, after};
 ghost use Rattle.sal_world.specs.Promises.{Names, Holds};
-ghost use Rattle.sal_world.specs.Answers.{said, is_refused, did_decode, next_said, IsHonest};
+ghost use Rattle.sal_world.specs.Invariant.{Invariant};
+ghost use Rattle.sal_world.specs.Answers.{said, is_refused, did_decode, next_said, takes_memory, IsHonest};
 ghost use Rattle.sal_world.specs.Stands.{IsWorld, Stands, IsFit, May, Happened, Stepped};
 
 use crate::event::{Answer, Event};
@@ -155,6 +156,7 @@ impl<C: Codec> World<C> {
         requires size { HasSides self.old.sender.session.head.width self.old.sender.session.head.height (arc_value picture) }
         ensures answered { (session : Session) (w : WorldOf C.State) → IsWorld C.coding session self.old w → Happened C.coding session self.new w (EventOf.Next (arc_value picture)) result }
         ensures refused { is_refused result ≡ true → self.new ≡ self.old }
+        ensures memory { (session : Session) (w : WorldOf C.State) → IsWorld C.coding session self.old w → result ≡ Answer.Memory → starts (next_answer w.sender) ≡ true }
     {
         next_said(self.sender.next_picture(picture, self.moment))
     }
@@ -163,6 +165,7 @@ impl<C: Codec> World<C> {
     fn take(&mut self) -> Answer<C>
         ensures answered { (session : Session) (w : WorldOf C.State) → IsWorld C.coding session self.old w → Happened C.coding session self.new w EventOf.Take result }
         ensures refused { is_refused result ≡ true → self.new ≡ self.old }
+        ensures memory { result ≢ Answer.Memory }
     {
         Answer::Take(self.sender.take_job())
     }
@@ -172,6 +175,7 @@ impl<C: Codec> World<C> {
         requires size { HasSides self.old.sender.session.head.width self.old.sender.session.head.height report.work.samples }
         ensures answered { (session : Session) (w : WorldOf C.State) → IsWorld C.coding session self.old w → IsOwnWork C.coding w.sender report.work → Happened C.coding session self.new w (EventOf.Reports report.work.id report.ran) result }
         ensures refused { is_refused result ≡ true → self.new ≡ self.old }
+        ensures memory { result ≢ Answer.Memory }
     {
         Answer::Report(self.sender.report(report))
     }
@@ -201,6 +205,7 @@ impl<C: Codec> World<C> {
     fn down(&mut self, which: u32) -> Answer<C>
         ensures answered { (session : Session) (w : WorldOf C.State) → IsWorld C.coding session self.old w → Happened C.coding session self.new w (EventOf.Down which) result }
         ensures refused { is_refused result ≡ true → self.new ≡ self.old }
+        ensures memory { (session : Session) (w : WorldOf C.State) → IsWorld C.coding session self.old w → result ≡ Answer.Memory → is_some (member (sent w) which) ≡ true }
     {
         let Some(datagram) = member(self.sent.as_slice(), u64::from(which)) else {
             return Answer::Unsent(u64::from(which), self.sent.as_slice().len() as u64);
@@ -229,6 +234,7 @@ impl<C: Codec> World<C> {
     fn up(&mut self, which: u64) -> Answer<C>
         ensures answered { (session : Session) (w : WorldOf C.State) → IsWorld C.coding session self.old w → Happened C.coding session self.new w (EventOf.Up which) result }
         ensures refused { is_refused result ≡ true → self.new ≡ self.old }
+        ensures memory { result ≢ Answer.Memory }
     {
         match member(self.acks.as_slice(), which) {
             Some(ack) => Answer::Up(self.sender.heard(ack.as_slice(), self.moment)),
@@ -240,6 +246,7 @@ impl<C: Codec> World<C> {
     fn ready(&mut self) -> Answer<C>
         ensures answered { (session : Session) (w : WorldOf C.State) → IsWorld C.coding session self.old w → Happened C.coding session self.new w EventOf.Ready result }
         ensures refused { is_refused result ≡ true → self.new ≡ self.old }
+        ensures memory { result ≢ Answer.Memory }
     {
         Answer::Ready(self.receiver.take_ready())
     }
@@ -249,6 +256,7 @@ impl<C: Codec> World<C> {
         requires { (session : Session) × ((w : WorldOf C.State) × IsWorld C.coding session self.old w) }
         ensures answered { (session : Session) (w : WorldOf C.State) → IsWorld C.coding session self.old w → IsOwn C.coding w.receiver decoding.handed → Happened C.coding session self.new w (EventOf.Decodes decoding.handed.number (did_decode decoding.outcome)) result }
         ensures refused { is_refused result ≡ true → self.new ≡ self.old }
+        ensures memory { result ≢ Answer.Memory }
     {
         Answer::Decoded(self.receiver.decoded(decoding))
     }
@@ -257,6 +265,7 @@ impl<C: Codec> World<C> {
     fn pass(&mut self, moment: u64) -> Answer<C>
         ensures answered { (session : Session) (w : WorldOf C.State) → IsWorld C.coding session self.old w → Happened C.coding session self.new w (EventOf.Moment moment) result }
         ensures refused { is_refused result ≡ true → self.new ≡ self.old }
+        ensures memory { result ≢ Answer.Memory }
     {
         self.moment = moment.max(self.moment);
         Answer::Moment(self.moment)
@@ -267,6 +276,7 @@ impl<C: Codec> World<C> {
         requires fit { (session : Session) × ((w : WorldOf C.State) × (IsWorld C.coding session self.old w × IsFit C.coding session w event)) }
         ensures answered { (session : Session) (w : WorldOf C.State) → IsWorld C.coding session self.old w → IsFit C.coding session w event → Happened C.coding session self.new w (said event) result }
         ensures refused { is_refused result ≡ true → self.new ≡ self.old }
+        ensures memory { (session : Session) (w : WorldOf C.State) → IsWorld C.coding session self.old w → result ≡ Answer.Memory → takes_memory w (said event) ≡ true }
     {
         match event {
             Event::Next(picture) => self.start(picture),
@@ -285,12 +295,15 @@ impl<C: Codec> World<C> {
     ///
     /// Pictures have the session's size, and a report or a decoding is of what this world handed out. The answer is that
     /// of the end that is called, but that the datagrams of a choice go to the list of those sent. `Unsent` has the number
-    /// that was named and the last one there is. A refusal changes nothing, and neither does want of memory.
+    /// that was named and the last one there is. A refusal changes nothing, and neither does want of memory, which comes only
+    /// where a picture is started, at a choice, and at a datagram that there is.
     pub fn step(&mut self, event: Event<C>) -> Answer<C>
         requires may { (session : Session) × ((events : List EventOf) × (Stands C.coding session self.old events × May C.coding session events event)) }
         ensures answered { (session : Session) (events : List EventOf) → Stands C.coding session self.old events → May C.coding session events event → Stepped C.coding session self.new events event result }
         ensures refused { is_refused result ≡ true → self.new ≡ self.old }
+        ensures memory { (session : Session) (events : List EventOf) → Stands C.coding session self.old events → result ≡ Answer.Memory → takes_memory (after C.coding session events) (said event) ≡ true }
         ensures honest { (session : Session) (events : List EventOf) → Stands C.coding session self.old events → May C.coding session events event → Names C.coding (after C.coding session (said event ∷ events)) → IsHonest result }
+        ensures kept { (session : Session) (events : List EventOf) → Stands C.coding session self.new events → Names C.coding (after C.coding session events) → Invariant C.coding session (after C.coding session events) }
         ensures promises { (session : Session) (events : List EventOf) → Stands C.coding session self.new events → Names C.coding (after C.coding session events) → Holds C.coding session (after C.coding session events) }
     {
         keeps_the_law::<C>();

@@ -2,6 +2,7 @@ use Rattle.std.proofs.Common.{◌≡◌, ap, sym, subst, max, ◌∙◌}
 use Rattle.std.specs.Option.{option_copied}
 use Rattle.sal_sender.specs.Machine.{AreSeats}
 use Rattle.sal_sender.proofs.Choosings.{no_picture, waits, nothing, found_seat}
+use Rattle.sal_sender.proofs.ChosenLacks.{lacks}
 use Rattle.sal_sender.proofs.ChosenSent.{sent_chosen}
 use Rattle.sal_sender.proofs.sender.Sender.choose.Goals as goal
 
@@ -19,3 +20,6 @@ prepare-requires-clause-seat g c κs within = found_seat g.C.Codec.coding c.is_l
 
 pub returns-in-Ok-clause-answered : goal.returns-in-Ok-clause-answered
 returns-in-Ok-clause-answered g c past s = sent_chosen g.C.Codec.coding c.args.self.now c.send.new.self past c.args.moment c.max-at.result c.budget-budget.result c.in-Some.picture c.is_lost.result c.is_lost-is_lost.result c.in-Some-found.seat.now c.in-Ok.taken c.send.result s (subst (λ v. v.shelf.floor ≡ v.floor) c.self.view_is c.self.invariant.0.shelf) (sym (ap (λ v. v.seats) c.self.view_is) ∙ c.in-Some.is) c.is_lost.ensures c.is_lost-is_lost.ensures c.in_default-missing.ensures (c.max-at.ensures ∙ ap (λ v. max v.tally.moment c.args.moment) c.self.view_is) c.budget-budget.ensures (sym c.found.ensures ∙ ap option_copied c.in-Some-found.is) c.in-Ok.ensures c.send.ensures.sent c.send.ensures.after
+
+pub returns-in-Err-clause-memory : goal.returns-in-Err-clause-memory
+returns-in-Err-clause-memory g c past s = λ h. lacks g.C.Codec.coding c.args.self.now past c.args.moment c.max-at.result c.budget-budget.result c.in-Some.picture c.is_lost.result c.is_lost-is_lost.result c.in-Some-found.seat.now s (sym (ap (λ v. v.seats) c.self.view_is) ∙ c.in-Some.is) c.is_lost.ensures c.is_lost-is_lost.ensures c.in_default-missing.ensures (c.max-at.ensures ∙ ap (λ v. max v.tally.moment c.args.moment) c.self.view_is) c.budget-budget.ensures (sym c.found.ensures ∙ ap option_copied c.in-Some-found.is)

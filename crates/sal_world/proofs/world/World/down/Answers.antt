@@ -2,7 +2,7 @@ use Rattle.std.proofs.Common.{◌≡◌, ◌∷◌, [], ◌++◌, sym, ap, ◌�
 use Rattle.std.specs.Option.{option_copied}
 use Rattle.sal_receiver.specs.declared.answers.Delivered.TheVariants.{Ended, Refused, Memory}
 use Rattle.sal_world.specs.World.{member}
-use Rattle.sal_world.proofs.ReceiverSteps.{down_unsent, down_taken, down_quiet, down_kept}
+use Rattle.sal_world.proofs.ReceiverSteps.{down_there, down_unsent, down_taken, down_quiet, down_kept}
 use Rattle.sal_world.proofs.world.World.down.Goals as goal
 
 pub returns-in_default-clause-answered : goal.returns-in_default-clause-answered
@@ -22,3 +22,12 @@ returns-in-Refused-clause-refused g c = λ h. down_kept _ c.args.self.now c.deli
 
 pub returns-in-Memory-clause-refused : goal.returns-in-Memory-clause-refused
 returns-in-Memory-clause-refused g c = λ h. down_kept _ c.args.self.now c.deliver.new.self c.reserve.new.self.items c.deliver.result Memory c.self.view_is c.reserve.ensures.items c.deliver.ensures.alone c.in-Memory.is tt
+
+pub returns-in_default-room-clause-memory : goal.returns-in_default-room-clause-memory
+returns-in_default-room-clause-memory g c session w is = λ h. down_there g.C.Codec.coding session _ c.args.self.now w c.args.which c.from.result _ c.self.view_is is (ap (λ s. member s c.from.result) (sym c.as_slice.ensures.value) ∙ (sym c.member.ensures ∙ ap option_copied c.in-Some.is)) c.from.ensures
+
+pub returns-then-is_err-clause-memory : goal.returns-then-is_err-clause-memory
+returns-then-is_err-clause-memory g c session w is = λ h. down_there g.C.Codec.coding session _ c.args.self.now w c.args.which c.from.result _ c.self.view_is is (ap (λ s. member s c.from.result) (sym c.as_slice.ensures.value) ∙ (sym c.member.ensures ∙ ap option_copied c.in-Some.is)) c.from.ensures
+
+pub returns-in-Memory-clause-memory : goal.returns-in-Memory-clause-memory
+returns-in-Memory-clause-memory g c session w is = λ h. down_there g.C.Codec.coding session _ c.args.self.now w c.args.which c.from.result _ c.self.view_is is (ap (λ s. member s c.from.result) (sym c.as_slice.ensures.value) ∙ (sym c.member.ensures ∙ ap option_copied c.in-Some.is)) c.from.ensures

@@ -1,7 +1,7 @@
 use Rattle.std.proofs.Common.{◌∷◌}
 use Rattle.sal_world.specs.World.{after}
 use Rattle.sal_world.specs.Answers.{said}
-use Rattle.sal_world.proofs.Kept.{all_interleavings}
+use Rattle.sal_world.proofs.Kept.{all_interleavings, holds_everywhere}
 use Rattle.sal_world.proofs.Stepped.{fits, stepped, honest}
 use Rattle.sal_world.proofs.world.World.step.Goals as goal
 
@@ -24,3 +24,9 @@ returns-clause-honest g c session events stands may names =
 
 pub returns-clause-promises : goal.returns-clause-promises
 returns-clause-promises g c session events stands names = all_interleavings g.C.Codec.coding session c.keeps_the_law.ensures stands.session_is events stands.sizes names
+
+pub returns-clause-kept : goal.returns-clause-kept
+returns-clause-kept g c session events stands names = holds_everywhere g.C.Codec.coding session c.keeps_the_law.ensures stands.session_is events stands.sizes names
+
+pub returns-clause-memory : goal.returns-clause-memory
+returns-clause-memory g c session events stands = λ h. c.happen.ensures.memory session (after g.C.Codec.coding session events) stands.world h
