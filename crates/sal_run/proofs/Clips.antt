@@ -1,15 +1,15 @@
 -- What was read of an input, and what is left of its clip.
-use Rattle.std.proofs.Common.{◌≡◌, ◌≢◌, ℕ, zero, suc, ◌+◌, ◌-◌, ◌<◌, ◌≤◌, Bool, true, false, cond, List, [], ◌∷◌, ◌++◌, length, take, Option, Some, None, Result, Ok, Err, IfSome, refl, ap, sym, ◌∙◌, subst, arith}
+use Rattle.std.proofs.Common.{◌≡◌, ◌≢◌, ℕ, zero, suc, ◌+◌, Bool, false, List, [], ◌∷◌, length, take, Option, Some, None, refl, ap, sym, ◌∙◌, subst, arith}
 use Rattle.std.specs.Prelude.{nat_lt, if◌then◌else◌}
 use Rattle.std.proofs.lemmas.Bool.Decides.{nat_tests}
-use Rattle.std.proofs.lemmas.Bool.{lt-ltb, le-ltb, ltb-true}
+use Rattle.std.proofs.lemmas.Bool.{le-ltb}
 use Rattle.sal_base.specs.declared.picture.Picture.{Picture}
-use Rattle.sal_io.specs.Told.{Reading, ReadsAs}
+use Rattle.sal_io.specs.Told.{Reading}
 use Rattle.sal_y4m.specs.declared.head.Head.{Head}
 use Rattle.sal_y4m.specs.declared.fault.Why.TheVariants.{Form}
 use Rattle.sal_y4m.specs.Grammar.{picture_at}
 use Rattle.sal_run.specs.Front.{front, and_more, is_empty}
-use Rattle.sal_run.specs.Clip.{End, BadInput, TooMany, TooLong, over, Clip}
+use Rattle.sal_run.specs.Clip.{BadInput, over, Clip}
 use Rattle.sal_run.specs.Input.{clip_within, clip_in}
 
 no_picture : (head : Head) → picture_at head [] ≡ None

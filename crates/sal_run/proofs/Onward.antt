@@ -1,5 +1,5 @@
 -- What one line makes of a run over an input.
-use Rattle.std.proofs.Common.{◌≡◌, ◌≢◌, ℕ, zero, suc, ◌+◌, ◌*◌, ◌/◌, ◌<◌, ◌≤◌, Bool, true, false, cond, List, [], ◌∷◌, ◌++◌, length, Option, Some, None, Result, Ok, Err, IfSome, refl, ap, sym, ◌∙◌, subst, arith, append_assoc, inl, inr}
+use Rattle.std.proofs.Common.{◌≡◌, ℕ, zero, suc, ◌+◌, Bool, true, false, List, [], ◌∷◌, ◌++◌, length, Option, Some, None, Result, Ok, Err, IfSome, refl, ap, sym, ◌∙◌, subst, arith, append_assoc, inl, inr}
 use Rattle.std.specs.Result.{IsErrAnd}
 use Rattle.sal_base.specs.declared.picture.Picture.{Picture}
 use Rattle.sal_codec.specs.Coding.{Coding}
@@ -15,17 +15,16 @@ use Rattle.sal_sender.specs.Choosing.{is_fine}
 use Rattle.sal_world.specs.Both.{Both}
 use Rattle.sal_world.specs.World.{Event, sent, acks, after}
 use Rattle.sal_world.specs.World.{Next as NextEvent}
-use Rattle.sal_world.specs.Script.{Run, with_event, next_picture, next_line, down, up, down_all, up_all, wait, rest, is_number, line}
+use Rattle.sal_world.specs.Script.{Run, with_event, next_picture, down, up, down_all, up_all, wait, rest, is_number, line}
 use Rattle.sal_run.specs.declared.diary.DiaryFault.{DiaryFault}
 use Rattle.sal_run.specs.declared.stop.Stop.{Stop}
 use Rattle.sal_run.specs.declared.stop.Stop.TheVariants as stop
-use Rattle.sal_run.specs.Clip.{End, Done, BadInput, BadScript, TooMany, TooLong, over, Clip}
+use Rattle.sal_run.specs.Clip.{End, BadInput, BadScript, TooMany, TooLong, over, Clip}
 use Rattle.sal_run.specs.Loop.{session_of, out_text, or_end, ended}
-use Rattle.sal_run.specs.Ends.{IsAtNext}
 use Rattle.sal_run.specs.Marks.{Marks}
-use Rattle.sal_run.specs.Turns.{is_late, one_turn}
-use Rattle.sal_run.specs.Running.{IsRunning, PartlyOf, CutOf, Stopped, IsAt, Comes}
-use Rattle.sal_run.specs.Input.{clip_in, TakeGives, IsNothing, IsBroken, IsOver, next_said, Told2, onward, EndsAs, ToNextOf, Halts, LineGoes}
+use Rattle.sal_run.specs.Turns.{is_late, exchange, one_turn}
+use Rattle.sal_run.specs.Running.{IsRunning, PartlyOf, Stopped, IsAt, Comes}
+use Rattle.sal_run.specs.Input.{clip_in, TakeGives, next_said, onward, EndsAs, ToNextOf, Halts, LineGoes}
 use Rattle.sal_run.proofs.Grow.{Grows, grows_none, grows_then, grows_event, shot_kept, chosen_kept, down_kept, up_kept, down_all_kept, up_all_kept, wait_kept, rest_kept}
 use Rattle.sal_run.proofs.Steps.{stopped_later}
 use Rattle.sal_run.proofs.Clips.{clip_some, clip_end, clip_broken, clip_over}
@@ -88,18 +87,15 @@ module _ {S : Type 0} (codec : Coding S) (head : Head) where
 
   -- ---- one turn of a rest
 
-  pub turn_up : (time : ℕ) (r : Run S) → Grows (up_all codec (session_of head) r) (wait codec (session_of head) time (up_all codec (session_of head) r))
-  turn_up time r = wait_grows time (up_all codec (session_of head) r)
-
-  pub turn_down : (time : ℕ) (r : Run S) → Grows (down_all codec (session_of head) r) (wait codec (session_of head) time (up_all codec (session_of head) (down_all codec (session_of head) r)))
-  turn_down time r =
-      let s : Run S = down_all codec (session_of head) r in
-      grows_then s (up_all codec (session_of head) s) _ (up_all_grows s) (turn_up time s)
+  pub exchange_next : (picture : Picture) (r : Run S) → Grows (next_picture codec (session_of head) (is_late false) picture r) (exchange codec (session_of head) picture r)
+  exchange_next picture r =
+      let s : Run S = next_picture codec (session_of head) (is_late false) picture r in
+      grows_then s (down_all codec (session_of head) s) _ (down_all_grows s) (up_all_grows (down_all codec (session_of head) s))
 
   pub turn_next : (time : ℕ) (picture : Picture) (r : Run S) → Grows (next_picture codec (session_of head) (is_late false) picture r) (one_turn codec (session_of head) time picture r)
   turn_next time picture r =
-      let s : Run S = next_picture codec (session_of head) (is_late false) picture r in
-      grows_then s (down_all codec (session_of head) s) _ (down_all_grows s) (turn_down time s)
+      let s : Run S = exchange codec (session_of head) picture r in
+      grows_then (next_picture codec (session_of head) (is_late false) picture r) s _ (exchange_next picture r) (wait_grows time s)
 
   -- ---- all lines
 
@@ -173,10 +169,11 @@ module _ {S : Type 0} (codec : Coding S) (head : Head) where
   part_of (Some o) b r s is f = (f.later, (r.events, f.events, is.shown ∙ ap (λ w. out_text head w) is.world))
 
   -- the next thing that happens is that a picture is started, or nothing does
-  to_next : (late : Bool) (n : ℕ) (more : List Numbered) (r : Run S) (c : Clip) (ps : List Picture) (o : List ℕ) → c.pictures ≡ ps → o ≡ out_text head (after codec (session_of head) r.events) → ToNextOf codec head (run_from c ((n, next_said late) ∷ more) r).0.events o
+  to_next : (late : Bool) (n : ℕ) (more : List Numbered) (r : Run S) (c : Clip) (ps : List Picture) (o : List ℕ) → c.pictures ≡ ps → o ≡ out_text head (after codec (session_of head) r.events) → ToNextOf codec head (λ ls. (run_from c ls r).0.events) ((n, next_said late) ∷ more) o
   to_next late n more r c [] o e shown =
       let same : c ≡ record { pictures = []; fault = c.fault } = ap (λ (xs : List Picture). let d : Clip = record { pictures = xs; fault = c.fault } in d) e in
-      subst (λ (t : Run S × End). ToNextOf codec head t.0.events o) (sym (ap (λ (d : Clip). run_from d ((n, next_said late) ∷ more) r) same ∙ next_ends late n more r c.fault)) ([], (r.events, refl, inl tt, shown))
+      let ends : run_from c ((n, next_said late) ∷ more) r ≡ (record r { left = [] }, or_end c.fault (BadScript n)) = ap (λ (d : Clip). run_from d ((n, next_said late) ∷ more) r) same ∙ next_ends late n more r c.fault in
+      ([], (r.events, ap (λ (t : Run S × End). t.0.events) ends, inl (inl refl), shown))
   to_next late n more r c (p ∷ ps) o e shown =
       let same : c ≡ record { pictures = p ∷ ps; fault = c.fault } = ap (λ (xs : List Picture). let d : Clip = record { pictures = xs; fault = c.fault } in d) e in
       let q : Run S = record r { left = ps } in
@@ -186,26 +183,26 @@ module _ {S : Type 0} (codec : Coding S) (head : Head) where
       let f : Follows s (end_of_lines c.fault more s).0 = follows_lines c.fault more s in
       let events : (end_of_lines c.fault more s).0.events ≡ ((f.later ++ g.later) ++ NextEvent p ∷ []) ++ r.events =
       f.events ∙ (ap (λ es. f.later ++ es) g.events ∙ (sym (append_assoc f.later g.later (NextEvent p ∷ r.events)) ∙ sym (append_assoc (f.later ++ g.later) (NextEvent p ∷ []) r.events))) in
-      subst (λ (t : Run S × End). ToNextOf codec head t.0.events o) (sym (ap (λ (d : Clip). run_from d ((n, next_said late) ∷ more) r) same ∙ next_run late n more r p ps c.fault))
-      ((f.later ++ g.later) ++ NextEvent p ∷ [], (r.events, events, inr (p, (f.later ++ g.later, refl)), shown))
+      let runs : run_from c ((n, next_said late) ∷ more) r ≡ end_of_lines c.fault more s = ap (λ (d : Clip). run_from d ((n, next_said late) ∷ more) r) same ∙ next_run late n more r p ps c.fault in
+      ((f.later ++ g.later) ++ NextEvent p ∷ [], (r.events, ap (λ (t : Run S × End). t.0.events) runs ∙ events, inl (inr (p, (f.later ++ g.later, refl))), shown))
 
-  to_next_told : (late : Bool) (n : ℕ) (more : List Numbered) (b : Both S) (held : Option (List ℕ)) (r : Run S) (c : Clip) → IsRunning codec head b held r → IfSome held (λ o. ToNextOf codec head (run_from c ((n, next_said late) ∷ more) r).0.events o)
+  to_next_told : (late : Bool) (n : ℕ) (more : List Numbered) (b : Both S) (held : Option (List ℕ)) (r : Run S) (c : Clip) → IsRunning codec head b held r → IfSome held (λ o. ToNextOf codec head (λ ls. (run_from c ls r).0.events) ((n, next_said late) ∷ more) o)
   to_next_told late n more b None r c is = tt
   to_next_told late n more b (Some o) r c is = to_next late n more r c c.pictures o refl (is.shown ∙ ap (λ w. out_text head w) is.world)
 
   module _ (gives : DiaryFault → Bool) where
-    pub line_exit : {X : Type 0} (lines more : List Numbered) (m m' : ℕ) (left left' : Option (List ℕ)) (b : Both S) (d u : Marks) (held : Option (List ℕ)) (r : Run S) (result : Result X Stop) (why : Stop) → IsErrAnd result (λ e. e ≡ why)
-        → Halts codec head gives left held (λ l. onward codec head m l lines r) why → LineGoes codec head gives lines more m m' left left' b d u held r result
-    line_exit lines more m m' left left' b d u held r (Ok x) why h p = absurd h
-    line_exit lines more m m' left left' b d u held r (Err e) why h p = subst (λ s. Halts codec head gives left held (λ l. onward codec head m l lines r) s) (sym h) p
+    pub line_exit : {X : Type 0} (numbered : Numbered) (m m' : ℕ) (left left' : Option (List ℕ)) (b : Both S) (d u : Marks) (held : Option (List ℕ)) (r : Run S) (result : Result X Stop) (why : Stop) → IsErrAnd result (λ e. e ≡ why)
+        → ((more : List Numbered) → Halts codec head gives left held (λ ls l. onward codec head m l ls r) (numbered ∷ more) why) → LineGoes codec head gives numbered m m' left left' b d u held r result
+    line_exit numbered m m' left left' b d u held r (Ok x) why h p = absurd h
+    line_exit numbered m m' left left' b d u held r (Err e) why h p = subst (λ s. (more : List Numbered) → Halts codec head gives left held (λ ls l. onward codec head m l ls r) (numbered ∷ more) s) (sym h) p
 
-    pub said_goes : (n : ℕ) (said same : ScriptLine) (more : List Numbered) (m m' : ℕ) (left left' : Option (List ℕ)) (b : Both S) (d u : Marks) (held : Option (List ℕ)) (r : Run S) (result : Result (Unit {0}) Stop) → said ≡ same
-        → LineGoes codec head gives ((n, same) ∷ more) more m m' left left' b d u held r result → LineGoes codec head gives ((n, said) ∷ more) more m m' left left' b d u held r result
-    said_goes n said same more m m' left left' b d u held r result e p = subst (λ (x : ScriptLine). LineGoes codec head gives ((n, x) ∷ more) more m m' left left' b d u held r result) (sym e) p
+    pub said_goes : (n : ℕ) (said same : ScriptLine) (m m' : ℕ) (left left' : Option (List ℕ)) (b : Both S) (d u : Marks) (held : Option (List ℕ)) (r : Run S) (result : Result (Unit {0}) Stop) → said ≡ same
+        → LineGoes codec head gives (n, same) m m' left left' b d u held r result → LineGoes codec head gives (n, said) m m' left left' b d u held r result
+    said_goes n said same m m' left left' b d u held r result e p = subst (λ (x : ScriptLine). LineGoes codec head gives (n, x) m m' left left' b d u held r result) (sym e) p
 
     -- no picture was taken
     pub take_halts : (late : Bool) (n m : ℕ) (more : List Numbered) (left left' : Option (List ℕ)) (b : Both S) (held : Option (List ℕ)) (r : Run S) (why : Stop) → TakeGives head m left left' (Err why) → IsRunning codec head b held r
-        → Halts codec head gives left held (λ l. onward codec head m l ((n, next_said late) ∷ more) r) why
+        → Halts codec head gives left held (λ ls l. onward codec head m l ls r) ((n, next_said late) ∷ more) why
     take_halts late n m more None left' b held r (stop.BadInput place why) t is = tt
     take_halts late n m more (Some l) left' b held r (stop.BadInput place why) t is =
         let clip = clip_broken head m l t.2.0 t.2.1 in
@@ -242,25 +239,25 @@ module _ {S : Type 0} (codec : Coding S) (head : Head) where
         ends_here held r (record r { left = [] }) _ (BadScript n) (ap (λ (c : Clip). run_from c ((n, next_said late) ∷ more) r) (clip_end head m l t.0) ∙ next_ends late n more r None) refl is.shown
 
     -- what stops a step that leads on to the lines after it
-    pub stopped_part : (left held : Option (List ℕ)) (events all later : List Event) (l : List ℕ) (why : Stop) (final : List ℕ → Run S × End) → left ≡ Some l → (final l).0.events ≡ later ++ events → Stopped codec head gives held events why → Halts codec head gives left held final why
-    stopped_part left held events all later l (stop.BadInput place why) final e same p = absurd p
-    stopped_part left held events all later l (stop.BadScript line) final e same p = absurd p
-    stopped_part left held events all later l stop.TooMany final e same p = absurd p
-    stopped_part left held events all later l stop.TooLong final e same p = absurd p
-    stopped_part left held events all later l stop.ReadFault final e same p = absurd p
-    stopped_part left held events all later l stop.Out final e same p = rw e (stopped_later codec head gives held events (final l).0.events later stop.Out same p)
-    stopped_part left held events all later l (stop.Diary fault) final e same p = rw e (stopped_later codec head gives held events (final l).0.events later (stop.Diary fault) same p)
-    stopped_part left held events all later l stop.Memory final e same p = rw e (stopped_later codec head gives held events (final l).0.events later stop.Memory same p)
+    pub stopped_part : (left held : Option (List ℕ)) (events later : List Event) (l : List ℕ) (why : Stop) (final : List Numbered → List ℕ → Run S × End) (lines : List Numbered) → left ≡ Some l → (final lines l).0.events ≡ later ++ events → Stopped codec head gives held events why → Halts codec head gives left held final lines why
+    stopped_part left held events later l (stop.BadInput place why) final lines e same p = absurd p
+    stopped_part left held events later l (stop.BadScript line) final lines e same p = absurd p
+    stopped_part left held events later l stop.TooMany final lines e same p = absurd p
+    stopped_part left held events later l stop.TooLong final lines e same p = absurd p
+    stopped_part left held events later l stop.ReadFault final lines e same p = absurd p
+    stopped_part left held events later l stop.Out final lines e same p = rw e (stopped_later codec head gives held events (final lines l).0.events later stop.Out same p)
+    stopped_part left held events later l (stop.Diary fault) final lines e same p = rw e (stopped_later codec head gives held events (final lines l).0.events later (stop.Diary fault) same p)
+    stopped_part left held events later l stop.Memory final lines e same p = rw e (stopped_later codec head gives held events (final lines l).0.events later stop.Memory same p)
 
-    pub stopped_untold : (held : Option (List ℕ)) (events : List Event) (why : Stop) (final : List ℕ → Run S × End) → Stopped codec head gives held events why → Halts codec head gives None held final why
-    stopped_untold held events (stop.BadInput place why) final p = absurd p
-    stopped_untold held events (stop.BadScript line) final p = absurd p
-    stopped_untold held events stop.TooMany final p = absurd p
-    stopped_untold held events stop.TooLong final p = absurd p
-    stopped_untold held events stop.ReadFault final p = absurd p
-    stopped_untold held events stop.Out final p = tt
-    stopped_untold held events (stop.Diary fault) final p = (p.0, tt)
-    stopped_untold held events stop.Memory final p = tt
+    pub stopped_untold : (held : Option (List ℕ)) (events : List Event) (why : Stop) (final : List Numbered → List ℕ → Run S × End) (lines : List Numbered) → Stopped codec head gives held events why → Halts codec head gives None held final lines why
+    stopped_untold held events (stop.BadInput place why) final lines p = absurd p
+    stopped_untold held events (stop.BadScript line) final lines p = absurd p
+    stopped_untold held events stop.TooMany final lines p = absurd p
+    stopped_untold held events stop.TooLong final lines p = absurd p
+    stopped_untold held events stop.ReadFault final lines p = absurd p
+    stopped_untold held events stop.Out final lines p = tt
+    stopped_untold held events (stop.Diary fault) final lines p = (p.0, tt)
+    stopped_untold held events stop.Memory final lines p = tt
 
     next_at : (late : Bool) (n m : ℕ) (more : List Numbered) (l l' : List ℕ) (r : Run S) (p : Picture) → picture_at head l ≡ Some (p, l')
         → onward codec head (suc m) l ((n, next_said late) ∷ more) r ≡ end_of_lines (clip_in head m l').fault more (next_picture codec (session_of head) (is_late late) p (record r { left = (clip_in head m l').pictures }))
@@ -279,52 +276,54 @@ module _ {S : Type 0} (codec : Coding S) (head : Head) where
     moved b d u held r ps at = record { running = record { stands = at.running.stands; world = at.running.world; shown = at.running.shown }; downs_are = at.downs_are; ups_are = at.ups_are }
 
     -- a picture was taken
-    pub next_goes : (late : Bool) (n m m' : ℕ) (more : List Numbered) (left left' : Option (List ℕ)) (b0 b : Both S) (d0 u0 d u : Marks) (held : Option (List ℕ)) (r : Run S) (found : Option Picture) (p : Picture) (result : Result (Unit {0}) Stop)
+    pub next_goes : (late : Bool) (n m m' : ℕ) (left left' : Option (List ℕ)) (b0 b : Both S) (d0 u0 d u : Marks) (held : Option (List ℕ)) (r : Run S) (found : Option Picture) (p : Picture) (result : Result (Unit {0}) Stop)
         → found ≡ Some p → TakeGives head m left left' (Ok found) → m' + 1 ≡ m → IsAt codec head b0 d0 u0 held r
         → ((q : Run S) → IsAt codec head b0 d0 u0 held q → Comes codec head gives b d u held (next_picture codec (session_of head) (is_late late) p q) result)
-        → LineGoes codec head gives ((n, next_said late) ∷ more) more m m' left left' b d u held r result
-    next_goes late n m m' more left left' b0 b d0 u0 d u held r None p result e t count at comes = absurd cc
-    next_goes late n zero m' more left left' b0 b d0 u0 d u held r (Some f) p result e t count at comes = absurd (omega (arith, count))
-    next_goes late n (suc m) m' more None left' b0 b d0 u0 d u held r (Some f) p (Ok x) e t count at comes = (next_picture codec (session_of head) (is_late late) p r, (comes r at, tt))
-    next_goes late n (suc m) m' more (Some l) None b0 b d0 u0 d u held r (Some f) p (Ok x) e t count at comes = absurd t.1
-    next_goes late n (suc m) m' more (Some l) (Some l') b0 b d0 u0 d u held r (Some f) p (Ok x) e t count at comes =
+        → LineGoes codec head gives (n, next_said late) m m' left left' b d u held r result
+    next_goes late n m m' left left' b0 b d0 u0 d u held r None p result e t count at comes = absurd cc
+    next_goes late n zero m' left left' b0 b d0 u0 d u held r (Some f) p result e t count at comes = absurd (omega (arith, count))
+    next_goes late n (suc m) m' None left' b0 b d0 u0 d u held r (Some f) p (Ok x) e t count at comes = (next_picture codec (session_of head) (is_late late) p r, (comes r at, tt))
+    next_goes late n (suc m) m' (Some l) None b0 b d0 u0 d u held r (Some f) p (Ok x) e t count at comes = absurd t.1
+    next_goes late n (suc m) m' (Some l) (Some l') b0 b d0 u0 d u held r (Some f) p (Ok x) e t count at comes =
         let ps : List Picture = (clip_in head m l').pictures in
         let own : picture_at head l ≡ Some (p, l') = t.1 ∙ ap (λ (y : Picture). let o : Option (Picture × List ℕ) = Some (y, l') in o) (some_is f p e) in
-        (next_picture codec (session_of head) (is_late late) p (record r { left = ps }), (comes (record r { left = ps }) (moved b0 d0 u0 held r ps at), next_onward late n m m' more l l' r p own (omega (arith, count))))
-    next_goes late n (suc m) m' more None left' b0 b d0 u0 d u held r (Some f) p (Err why) e t count at comes =
-        stopped_untold held (next_picture codec (session_of head) (is_late late) p r).events why (λ l. onward codec head (suc m) l ((n, next_said late) ∷ more) r) (comes r at)
-    next_goes late n (suc m) m' more (Some l) None b0 b d0 u0 d u held r (Some f) p (Err why) e t count at comes = absurd t.1
-    next_goes late n (suc m) m' more (Some l) (Some l') b0 b d0 u0 d u held r (Some f) p (Err why) e t count at comes =
+        (next_picture codec (session_of head) (is_late late) p (record r { left = ps }), (comes (record r { left = ps }) (moved b0 d0 u0 held r ps at), λ more. next_onward late n m m' more l l' r p own (omega (arith, count))))
+    next_goes late n (suc m) m' None left' b0 b d0 u0 d u held r (Some f) p (Err why) e t count at comes =
+        λ more. stopped_untold held (next_picture codec (session_of head) (is_late late) p r).events why (λ ls l. onward codec head (suc m) l ls r) ((n, next_said late) ∷ more) (comes r at)
+    next_goes late n (suc m) m' (Some l) None b0 b d0 u0 d u held r (Some f) p (Err why) e t count at comes = absurd t.1
+    next_goes late n (suc m) m' (Some l) (Some l') b0 b d0 u0 d u held r (Some f) p (Err why) e t count at comes =
         let ps : List Picture = (clip_in head m l').pictures in
         let own : picture_at head l ≡ Some (p, l') = t.1 ∙ ap (λ (y : Picture). let o : Option (Picture × List ℕ) = Some (y, l') in o) (some_is f p e) in
         let s : Run S = next_picture codec (session_of head) (is_late late) p (record r { left = ps }) in
+        λ more.
         let f : Follows s (end_of_lines (clip_in head m l').fault more s).0 = follows_lines (clip_in head m l').fault more s in
-        stopped_part (Some l) held s.events (end_of_lines (clip_in head m l').fault more s).0.events f.later l why (λ i. onward codec head (suc m) i ((n, next_said late) ∷ more) r) refl
+        stopped_part (Some l) held s.events f.later l why (λ ls i. onward codec head (suc m) i ls r) ((n, next_said late) ∷ more) refl
         (ap (λ (x : Run S × End). x.0.events) (next_at late n m more l l' r p own) ∙ f.events) (comes (record r { left = ps }) (moved b0 d0 u0 held r ps at))
 
     -- ---- a line that reads nothing
 
-    pub plain_goes : (lines more : List Numbered) (f : Run S → Run S) (m : ℕ) (left : Option (List ℕ)) (b0 b : Both S) (d0 u0 d u : Marks) (held held' : Option (List ℕ)) (r : Run S) (result : Result (Unit {0}) Stop)
-        → ((q : Run S) → Grows q (f q)) → ((fault : Option End) (q : Run S) → q.world ≡ r.world → end_of_lines fault lines q ≡ end_of_lines fault more (f q)) → IsAt codec head b0 d0 u0 held r
-        → ((q : Run S) → IsAt codec head b0 d0 u0 held q → Comes codec head gives b d u held' (f q) result) → LineGoes codec head gives lines more m m left left b d u held' r result
-    plain_goes lines more f m None b0 b d0 u0 d u held held' r (Ok x) grown unfolds at comes = (f r, (comes r at, tt))
-    plain_goes lines more f m (Some l) b0 b d0 u0 d u held held' r (Ok x) grown unfolds at comes =
+    pub plain_goes : (numbered : Numbered) (f : Run S → Run S) (m : ℕ) (left : Option (List ℕ)) (b0 b : Both S) (d0 u0 d u : Marks) (held held' : Option (List ℕ)) (r : Run S) (result : Result (Unit {0}) Stop)
+        → ((q : Run S) → Grows q (f q)) → ((more : List Numbered) (fault : Option End) (q : Run S) → q.world ≡ r.world → end_of_lines fault (numbered ∷ more) q ≡ end_of_lines fault more (f q)) → IsAt codec head b0 d0 u0 held r
+        → ((q : Run S) → IsAt codec head b0 d0 u0 held q → Comes codec head gives b d u held' (f q) result) → LineGoes codec head gives numbered m m left left b d u held' r result
+    plain_goes numbered f m None b0 b d0 u0 d u held held' r (Ok x) grown unfolds at comes = (f r, (comes r at, tt))
+    plain_goes numbered f m (Some l) b0 b d0 u0 d u held held' r (Ok x) grown unfolds at comes =
         let c : Clip = clip_in head m l in
         let q : Run S = record r { left = c.pictures } in
-        (f q, (comes q (moved b0 d0 u0 held r c.pictures at), unfolds c.fault q refl ∙ ap (λ (s : Run S). end_of_lines c.fault more s) (sym (left_same (f q) c.pictures (grown q).left))))
-    plain_goes lines more f m None b0 b d0 u0 d u held held' r (Err why) grown unfolds at comes = stopped_untold held' (f r).events why (λ l. onward codec head m l lines r) (comes r at)
-    plain_goes lines more f m (Some l) b0 b d0 u0 d u held held' r (Err why) grown unfolds at comes =
+        (f q, (comes q (moved b0 d0 u0 held r c.pictures at), λ more. unfolds more c.fault q refl ∙ ap (λ (s : Run S). end_of_lines c.fault more s) (sym (left_same (f q) c.pictures (grown q).left))))
+    plain_goes numbered f m None b0 b d0 u0 d u held held' r (Err why) grown unfolds at comes = λ more. stopped_untold held' (f r).events why (λ ls l. onward codec head m l ls r) (numbered ∷ more) (comes r at)
+    plain_goes numbered f m (Some l) b0 b d0 u0 d u held held' r (Err why) grown unfolds at comes =
         let c : Clip = clip_in head m l in
         let q : Run S = record r { left = c.pictures } in
+        λ more.
         let s : Follows (f q) (end_of_lines c.fault more (f q)).0 = follows_lines c.fault more (f q) in
-        stopped_part (Some l) held' (f q).events (end_of_lines c.fault more (f q)).0.events s.later l why (λ i. onward codec head m i lines r) refl
-        (ap (λ (x : Run S × End). x.0.events) (unfolds c.fault q refl) ∙ s.events) (comes q (moved b0 d0 u0 held r c.pictures at))
+        stopped_part (Some l) held' (f q).events s.later l why (λ ls i. onward codec head m i ls r) (numbered ∷ more) refl
+        (ap (λ (x : Run S × End). x.0.events) (unfolds more c.fault q refl) ∙ s.events) (comes q (moved b0 d0 u0 held r c.pictures at))
 
-  pub down_unfolds : (n k : ℕ) (more : List Numbered) (r : Run S) → is_number k (length (sent r.world)) ≡ true → (fault : Option End) (q : Run S) → q.world ≡ r.world → end_of_lines fault ((n, Down k) ∷ more) q ≡ end_of_lines fault more (down codec (session_of head) k q)
-  down_unfolds n k more r e fault q same = let here : is_number k (length (sent q.world)) ≡ true = ap (λ w. is_number k (length (sent w))) same ∙ e in rw here refl
+  pub down_unfolds : (n k : ℕ) (r : Run S) → is_number k (length (sent r.world)) ≡ true → (more : List Numbered) (fault : Option End) (q : Run S) → q.world ≡ r.world → end_of_lines fault ((n, Down k) ∷ more) q ≡ end_of_lines fault more (down codec (session_of head) k q)
+  down_unfolds n k r e more fault q same = let here : is_number k (length (sent q.world)) ≡ true = ap (λ w. is_number k (length (sent w))) same ∙ e in rw here refl
 
-  pub up_unfolds : (n k : ℕ) (more : List Numbered) (r : Run S) → is_number k (length (acks r.world)) ≡ true → (fault : Option End) (q : Run S) → q.world ≡ r.world → end_of_lines fault ((n, Up k) ∷ more) q ≡ end_of_lines fault more (up codec (session_of head) k q)
-  up_unfolds n k more r e fault q same = let here : is_number k (length (acks q.world)) ≡ true = ap (λ w. is_number k (length (acks w))) same ∙ e in rw here refl
+  pub up_unfolds : (n k : ℕ) (r : Run S) → is_number k (length (acks r.world)) ≡ true → (more : List Numbered) (fault : Option End) (q : Run S) → q.world ≡ r.world → end_of_lines fault ((n, Up k) ∷ more) q ≡ end_of_lines fault more (up codec (session_of head) k q)
+  up_unfolds n k r e more fault q same = let here : is_number k (length (acks q.world)) ≡ true = ap (λ w. is_number k (length (acks w))) same ∙ e in rw here refl
 
   down_unrun : (n k : ℕ) (more : List Numbered) (q : Run S) (fault : Option End) → is_number k (length (sent q.world)) ≡ false → end_of_lines fault ((n, Down k) ∷ more) q ≡ (q, BadScript n)
   down_unrun n k more q fault e = rw e refl

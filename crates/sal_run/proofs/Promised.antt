@@ -1,20 +1,19 @@
 -- Every run keeps the promises.
-use Rattle.std.proofs.Common.{◌≡◌, ℕ, ◌<◌, ◌≤◌, ◌^◌, List, [], ◌∷◌, ◌++◌, Option, Some, None, IfSome, refl, sym, subst, arith}
+use Rattle.std.proofs.Common.{ℕ, ◌<◌, ◌≤◌, ◌^◌, List, [], ◌∷◌, ◌++◌, Option, Some, None, IfSome, sym, subst, arith}
 use Rattle.sal_base.specs.Lists.{Each}
-use Rattle.sal_codec.specs.Coding.{Coding, IsLawful, HasSides}
+use Rattle.sal_codec.specs.Coding.{Coding, IsLawful}
 use Rattle.sal_y4m.specs.declared.head.Head.{Head}
 use Rattle.sal_y4m.specs.Grammar.{IsNarrow}
 use Rattle.sal_script.specs.declared.line.ScriptLine.{ScriptLine}
 use Rattle.sal_script.specs.declared.line.ScriptLine.TheVariants.{Next, NextLate, Down, Up, DownAll, UpAll, Wait, Rest}
 use Rattle.sal_script.specs.Numbered.{Numbered}
 use Rattle.sal_sender.specs.OneThread.{Session}
-use Rattle.sal_world.specs.World.{Event, after}
-use Rattle.sal_world.specs.Promises.{IsSession, IsOfSize, Names, Holds}
+use Rattle.sal_world.specs.Promises.{IsSession, IsOfSize}
 use Rattle.sal_world.specs.Script.{Run, begun, line}
 use Rattle.sal_world.proofs.Played.{IsRun, IsRunIn, line_run, begun_run}
 use Rattle.sal_world.proofs.Kept.{all_interleavings}
-use Rattle.sal_run.specs.Clip.{End, Done, Clip, clip_at}
-use Rattle.sal_run.specs.Loop.{session_of, or_end, unrun, after_rest, after_line, in_line, ended, clip_run}
+use Rattle.sal_run.specs.Clip.{End, Clip, clip_at}
+use Rattle.sal_run.specs.Loop.{session_of, after_rest, after_line, in_line, ended, clip_run}
 use Rattle.sal_run.specs.Ends.{KeepsPromises}
 use Rattle.sal_run.proofs.Sizes.{clip_sizes}
 

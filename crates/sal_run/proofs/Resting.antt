@@ -1,122 +1,37 @@
 -- The pictures of a `rest`, one after the other.
-use Rattle.std.proofs.Common.{◌≡◌, ◌≢◌, ℕ, zero, suc, ◌+◌, ◌*◌, ◌/◌, ◌<◌, ◌≤◌, Bool, true, false, cond, List, [], ◌∷◌, ◌++◌, length, Option, Some, None, Result, Ok, Err, IfSome, is_some, refl, ap, sym, ◌∙◌, subst, arith, append_assoc, inl, inr}
+use Rattle.std.proofs.Common.{◌≡◌, ℕ, zero, suc, ◌+◌, ◌*◌, ◌/◌, ◌≤◌, Bool, true, false, List, [], ◌∷◌, ◌++◌, Option, Some, None, Result, Ok, Err, IfSome, is_some, refl, ap, sym, ◌∙◌, subst, arith, append_assoc, inl, inr}
 use Rattle.std.specs.Result.{IsErrAnd}
 use Rattle.sal_base.specs.declared.picture.Picture.{Picture}
-use Rattle.sal_base.specs.Lists.{Each}
 use Rattle.sal_codec.specs.Coding.{Coding}
+use Rattle.sal_io.specs.Calls.{HasCause}
 use Rattle.sal_y4m.specs.declared.head.Head.{Head}
 use Rattle.sal_y4m.specs.declared.fault.Why.{Why}
 use Rattle.sal_y4m.specs.declared.fault.Why.TheVariants.{Form}
 use Rattle.sal_y4m.specs.Grammar.{picture_at}
-use Rattle.sal_script.specs.declared.line.ScriptLine.TheVariants.{Next, NextLate, Down, Up, DownAll, UpAll, Wait, Rest}
+use Rattle.sal_script.specs.declared.line.ScriptLine.TheVariants.{Rest}
 use Rattle.sal_script.specs.Numbered.{Numbered}
-use Rattle.sal_receiver.specs.Ready.{take_answer as ready_answer}
 use Rattle.sal_world.specs.Both.{Both}
-use Rattle.sal_world.specs.World.{Event, Ready, Decodes, Moment, sent, acks, after}
-use Rattle.sal_world.specs.World.{Next as NextEvent, Down as DownEvent, Up as UpEvent}
-use Rattle.sal_world.specs.Script.{Run, with_event, downs_in, ups_in, unnamed, next_picture, drained, down, up, each, down_all, up_all, wait, rest, is_number}
+use Rattle.sal_world.specs.World.{Event, after}
+use Rattle.sal_world.specs.World.{Next as NextEvent}
+use Rattle.sal_world.specs.Script.{Run, with_event, next_picture, rest}
 use Rattle.sal_run.specs.declared.diary.DiaryFault.{DiaryFault}
 use Rattle.sal_run.specs.declared.stop.Stop.{Stop}
 use Rattle.sal_run.specs.declared.stop.Stop.TheVariants as stop
-use Rattle.sal_run.specs.Clip.{End, Done, BadInput, BadScript, TooMany, TooLong, over, Clip}
-use Rattle.sal_run.specs.Loop.{session_of, out_text, or_end, ended}
-use Rattle.sal_run.specs.Ends.{IsNoNext, IsAtNext}
+use Rattle.sal_run.specs.Clip.{End, BadInput, TooMany, TooLong, over, Clip}
+use Rattle.sal_run.specs.Loop.{session_of, out_text}
 use Rattle.sal_run.specs.Marks.{Marks}
-use Rattle.sal_run.specs.Turns.{is_late, one_turn}
-use Rattle.sal_run.specs.Running.{IsRunning, PartlyOf, CutOf, Stopped, IsAt, Comes}
-use Rattle.sal_run.specs.Input.{clip_in, TakeGives, IsNothing, IsBroken, IsOver, Told2, onward, EndsAs, ToNextOf, Halts, LineGoes}
+use Rattle.sal_run.specs.Turns.{is_late, exchange, one_turn}
+use Rattle.sal_run.specs.Running.{IsRunning, Stopped, IsAt}
+use Rattle.sal_run.specs.Input.{clip_in, TakeGives, Told2, onward, EndsAs, ToNextOf, Halts}
 use Rattle.sal_run.proofs.Grow.{Grows, grows_none, grows_then, grows_event, chosen_kept}
+use Rattle.sal_run.proofs.Steps.{stopped_later}
 use Rattle.sal_run.proofs.Clips.{clip_some, clip_end, clip_broken, clip_over}
-use Rattle.sal_run.proofs.Onward.{Follows, follows_none, follows_then, follows_lines, left_same, some_is, end_of_lines, run_from, ends_here, part_of, moved, stopped_part, stopped_untold, rest_grows, turn_next, down_all_grows, up_all_grows, wait_grows}
+use Rattle.sal_run.proofs.Onward.{Follows, follows_none, follows_then, follows_lines, left_same, some_is, end_of_lines, run_from, ends_here, part_of, stopped_part, stopped_untold, rest_grows, turn_next, wait_grows}
 
 not_told : false ≡ true → ⊥
 not_told e = absurd cc
 
--- no picture is started from here to there
-pub record Still {S : Type 0} (r s : Run S) : Type 0 where
-  pub later : List Event
-  pub events : s.events ≡ later ++ r.events
-  pub none : Each IsNoNext later
-  pub left : s.left ≡ r.left
-
-each_append : {X : Type 0} (P : X → Type 0) (xs ys : List X) → Each P xs → Each P ys → Each P (xs ++ ys)
-each_append P [] ys a b = b
-each_append P (x ∷ xs) ys a b = (a.0, each_append P xs ys a.1 b)
-
-still_none : {S : Type 0} (r : Run S) → Still r r
-still_none r = record { later = []; events = refl; none = tt; left = refl }
-
-still_then : {S : Type 0} (r s t : Run S) → Still r s → Still s t → Still r t
-still_then r s t a b = record {
-  later = b.later ++ a.later;
-  events = b.events ∙ (ap (λ es. b.later ++ es) a.events ∙ sym (append_assoc b.later a.later r.events));
-  none = each_append IsNoNext b.later a.later b.none a.none;
-  left = b.left ∙ a.left;
-}
-
 module _ {S : Type 0} (codec : Coding S) (head : Head) where
-  still_event : (r : Run S) (e : Event) (s : Run S) → IsNoNext e → Still r s → Still r (with_event codec (session_of head) e s)
-  still_event r e s h a = record { later = e ∷ a.later; events = ap (λ es. e ∷ es) a.events; none = (h, a.none); left = a.left }
-
-  drained_step : (n : ℕ) (r s : Run S) (o : Option ℕ) → Still r (with_event codec (session_of head) Ready s) → ((t : Run S) → Still r t → Still r (drained codec (session_of head) n t)) → Still r (elim o as (λ x. Run S) [
-    | None ↦ with_event codec (session_of head) Ready s
-    | Some number ↦ drained codec (session_of head) n (with_event codec (session_of head) (Decodes number true) (with_event codec (session_of head) Ready s))
-  ])
-  drained_step n r s None a more = a
-  drained_step n r s (Some number) a more = more _ (still_event r (Decodes number true) (with_event codec (session_of head) Ready s) tt a)
-
-  still_drained : (n : ℕ) (r s : Run S) → Still r s → Still r (drained codec (session_of head) n s)
-  unfolding drained
-  still_drained zero r s a = still_event r Ready s tt a
-  still_drained (suc n) r s a = drained_step n r s (ready_answer codec s.world.receiver) (still_event r Ready s tt a) (λ t b. still_drained n r t b)
-
-  still_down : (k : ℕ) (r s : Run S) → Still r s → Still r (down codec (session_of head) k s)
-  still_down k r s a = let t : Run S = with_event codec (session_of head) (DownEvent k) s in still_drained (length (acks t.world)) r t (still_event r (DownEvent k) s tt a)
-
-  still_downs : (ks : List ℕ) (r s : Run S) → Still r s → Still r (each codec (session_of head) (down codec (session_of head)) ks s)
-  still_downs [] r s a = a
-  still_downs (k ∷ ks) r s a = still_downs ks r (down codec (session_of head) k s) (still_down k r s a)
-
-  still_ups : (ks : List ℕ) (r s : Run S) → Still r s → Still r (each codec (session_of head) (up codec (session_of head)) ks s)
-  still_ups [] r s a = a
-  still_ups (k ∷ ks) r s a = still_ups ks r (up codec (session_of head) k s) (still_event r (UpEvent k) s tt a)
-
-  number_still : (b : Bool) (fault : Option End) (n k : ℕ) (more : List Numbered) (r : Run S) → is_number k (length (sent r.world)) ≡ b → ((t : Run S) → t.left ≡ [] → Still t (end_of_lines codec head fault more t).0) → r.left ≡ [] → Still r (end_of_lines codec head fault ((n, Down k) ∷ more) r).0
-  number_still true fault n k more r e all none =
-      let s : Run S = down codec (session_of head) k r in
-      let a : Still r s = still_down k r r (still_none r) in
-      rw e (still_then r s _ a (all s (a.left ∙ none)))
-  number_still false fault n k more r e all none = rw e (still_none r)
-
-  up_still : (b : Bool) (fault : Option End) (n k : ℕ) (more : List Numbered) (r : Run S) → is_number k (length (acks r.world)) ≡ b → ((t : Run S) → t.left ≡ [] → Still t (end_of_lines codec head fault more t).0) → r.left ≡ [] → Still r (end_of_lines codec head fault ((n, Up k) ∷ more) r).0
-  up_still true fault n k more r e all none =
-      let s : Run S = up codec (session_of head) k r in
-      let a : Still r s = still_event r (UpEvent k) r tt (still_none r) in
-      rw e (still_then r s _ a (all s (a.left ∙ none)))
-  up_still false fault n k more r e all none = rw e (still_none r)
-
-  -- where no picture is left none is started
-  still_lines : (fault : Option End) (lines : List Numbered) (r : Run S) → r.left ≡ [] → Still r (end_of_lines codec head fault lines r).0
-  still_lines fault [] r none = still_none r
-  still_lines fault ((n, Next) ∷ more) r none = rw none (still_none (record r { left = [] }))
-  still_lines fault ((n, NextLate) ∷ more) r none = rw none (still_none (record r { left = [] }))
-  still_lines fault ((n, Down k) ∷ more) r none = number_still (is_number k (length (sent r.world))) fault n k more r refl (λ t h. still_lines fault more t h) none
-  still_lines fault ((n, Up k) ∷ more) r none = up_still (is_number k (length (acks r.world))) fault n k more r refl (λ t h. still_lines fault more t h) none
-  still_lines fault ((n, DownAll) ∷ more) r none =
-      let s : Run S = down_all codec (session_of head) r in
-      let a : Still r s = still_downs (unnamed downs_in r.events (length (sent r.world))) r r (still_none r) in
-      still_then r s _ a (still_lines fault more s (a.left ∙ none))
-  still_lines fault ((n, UpAll) ∷ more) r none =
-      let s : Run S = up_all codec (session_of head) r in
-      let a : Still r s = still_ups (unnamed ups_in r.events (length (acks r.world))) r r (still_none r) in
-      still_then r s _ a (still_lines fault more s (a.left ∙ none))
-  still_lines fault ((n, Wait time) ∷ more) r none =
-      let s : Run S = wait codec (session_of head) time r in
-      let a : Still r s = still_event r (Moment _) r tt (still_none r) in
-      still_then r s _ a (still_lines fault more s (a.left ∙ none))
-  still_lines None ((n, Rest) ∷ more) r none = rw none (still_lines None more (record r { left = [] }) refl)
-  still_lines (Some end) ((n, Rest) ∷ more) r none = rw none (still_none (record r { left = [] }))
-
   -- ---- the loop of a rest
 
   abbrev time_of : ℕ
@@ -194,20 +109,21 @@ module _ {S : Type 0} (codec : Coding S) (head : Head) where
   now_left : (m0 : ℕ) (l0 : List ℕ) (r now : Run S) → now ≡ rest_of (clip_in head m0 l0).pictures (empty r) → now.left ≡ []
   now_left m0 l0 r now e = ap (λ (x : Run S). x.left) e ∙ (rest_grows codec head (clip_in head m0 l0).pictures (empty r)).left
 
-  told_end : (n m0 m m' : ℕ) (more : List Numbered) (left0 left left' : Option (List ℕ)) (r now : Run S) (found : Option Picture) → is_some left ≡ is_some left0 → found ≡ None → TakeGives head m left left' (Ok found)
-      → Told2 left0 left (λ l0 l. IsRest m0 l0 r m l now) → Told2 left0 left' (λ l0 l'. onward codec head m0 l0 ((n, Rest) ∷ more) r ≡ onward codec head m' l' more now)
-  told_end n m0 m m' more None left left' r now found tells e t told = tt
-  told_end n m0 m m' more (Some l0) left None r now found tells e t told = tt
-  told_end n m0 m m' more (Some l0) None (Some l') r now found tells e t told = absurd (not_told tells)
-  told_end n m0 m m' more (Some l0) (Some l) (Some l') r now (Some f) tells e t told = absurd cc
-  told_end n m0 m m' more (Some l0) (Some l) (Some l') r now None tells e t told =
+  told_end : (n m0 m m' : ℕ) (left0 left left' : Option (List ℕ)) (r now : Run S) (found : Option Picture) → is_some left ≡ is_some left0 → found ≡ None → TakeGives head m left left' (Ok found)
+      → Told2 left0 left (λ l0 l. IsRest m0 l0 r m l now) → Told2 left0 left' (λ l0 l'. (more : List Numbered) → onward codec head m0 l0 ((n, Rest) ∷ more) r ≡ onward codec head m' l' more now)
+  told_end n m0 m m' None left left' r now found tells e t told = tt
+  told_end n m0 m m' (Some l0) left None r now found tells e t told = tt
+  told_end n m0 m m' (Some l0) None (Some l') r now found tells e t told = absurd (not_told tells)
+  told_end n m0 m m' (Some l0) (Some l) (Some l') r now (Some f) tells e t told = absurd cc
+  told_end n m0 m m' (Some l0) (Some l) (Some l') r now None tells e t told =
       let done = all_done m0 l0 r m l now None told (clip_end head m l t.0) in
+      λ more.
       rest_goes_on n more (clip_in head m0 l0).pictures (clip_in head m0 l0).fault r done.1
       ∙ (ap (λ (x : Run S). end_of_lines codec head None more x) (sym (left_same now [] (now_left m0 l0 r now done.0) ∙ done.0)) ∙ sym (ap (λ (c : Clip). run_from codec head c more now) (clip_end head m' l' t.1)))
 
-  pub rest_end : (n m0 m m' : ℕ) (more : List Numbered) (left0 left left' : Option (List ℕ)) (r : Run S) (b : Both S) (d u : Marks) (held : Option (List ℕ)) (found : Option Picture) (now : RestLeft m0 left0 r m left b d u held) → is_some left ≡ is_some left0 → found ≡ None → TakeGives head m left left' (Ok found)
-      → (s : Run S) × (IsAt codec head b d u held s × Told2 left0 left' (λ l0 l'. onward codec head m0 l0 ((n, Rest) ∷ more) r ≡ onward codec head m' l' more s))
-  rest_end n m0 m m' more left0 left left' r b d u held found now tells e t = (now.now, (now.here, told_end n m0 m m' more left0 left left' r now.now found tells e t now.told))
+  pub rest_end : (n m0 m m' : ℕ) (left0 left left' : Option (List ℕ)) (r : Run S) (b : Both S) (d u : Marks) (held : Option (List ℕ)) (found : Option Picture) (now : RestLeft m0 left0 r m left b d u held) → is_some left ≡ is_some left0 → found ≡ None → TakeGives head m left left' (Ok found)
+      → (s : Run S) × (IsAt codec head b d u held s × Told2 left0 left' (λ l0 l'. (more : List Numbered) → onward codec head m0 l0 ((n, Rest) ∷ more) r ≡ onward codec head m' l' more s))
+  rest_end n m0 m m' left0 left left' r b d u held found now tells e t = (now.now, (now.here, told_end n m0 m m' left0 left left' r now.now found tells e t now.told))
 
   ends_in : (n m0 m : ℕ) (more : List Numbered) (l0 l : List ℕ) (r now : Run S) (held : Option (List ℕ)) (end end' : End) → IsRest m0 l0 r m l now → clip_in head m l ≡ record { pictures = []; fault = Some end' } → end' ≡ end → IfSome held (λ o. o ≡ out_text head now.world)
       → EndsAs codec head held end (onward codec head m0 l0 ((n, Rest) ∷ more) r)
@@ -216,17 +132,19 @@ module _ {S : Type 0} (codec : Coding S) (head : Head) where
       ends_here codec head held now now (onward codec head m0 l0 ((n, Rest) ∷ more) r) end
       (rest_ends n more (clip_in head m0 l0).pictures (clip_in head m0 l0).fault end r (done.1 ∙ ap (λ (x : End). Some x) same) ∙ ap (λ (x : Run S). let t : Run S × End = (x, end) in t) (sym done.0)) refl shown
 
-  fault_case : (n : ℕ) (more : List Numbered) (ps : List Picture) (r now : Run S) (fault : Option End) (o : List ℕ) → now ≡ rest_of ps (empty r) → now.left ≡ [] → o ≡ out_text head (after codec (session_of head) now.events) → ToNextOf codec head (run_from codec head (record { pictures = ps; fault = fault }) ((n, Rest) ∷ more) r).0.events o
-  fault_case n more ps r now None o e none shown =
-      let s : Still now (end_of_lines codec head None more now).0 = still_lines None more now none in
-      subst (λ (x : Run S). ToNextOf codec head (end_of_lines codec head None more x).0.events o) e (s.later, (now.events, s.events, inl s.none, shown))
-  fault_case n more ps r now (Some end) o e none shown = ([], (now.events, ap (λ (x : Run S). x.events) (sym e), inl tt, shown))
+  fault_case : (n : ℕ) (more : List Numbered) (ps : List Picture) (r now : Run S) (fault : Option End) (o : List ℕ) → now ≡ rest_of ps (empty r) → o ≡ out_text head (after codec (session_of head) now.events)
+      → ToNextOf codec head (λ ls. (run_from codec head (record { pictures = ps; fault = fault }) ls r).0.events) ((n, Rest) ∷ more) o
+  fault_case n more ps r now None o e shown =
+      let f : Follows (rest_of ps (empty r)) (end_of_lines codec head None more (rest_of ps (empty r))).0 = follows_lines codec head None more (rest_of ps (empty r)) in
+      let same : now.events ≡ (rest_of ps (empty r)).events = ap (λ (x : Run S). x.events) e in
+      (f.later, (now.events, f.events ∙ ap (λ es. f.later ++ es) (sym same), inr ([], (n, (more, refl, same))), shown))
+  fault_case n more ps r now (Some end) o e shown = ([], (now.events, ap (λ (x : Run S). x.events) (sym e), inl (inl refl), shown))
 
   read_case : (n m0 m : ℕ) (more : List Numbered) (l0 l : List ℕ) (r now : Run S) (o : List ℕ) (c : Clip) (ps : List Picture) → c ≡ clip_in head m l → c.pictures ≡ ps → IsRest m0 l0 r m l now → o ≡ out_text head (after codec (session_of head) now.events)
-      → ToNextOf codec head (onward codec head m0 l0 ((n, Rest) ∷ more) r).0.events o
+      → ToNextOf codec head (λ ls. (onward codec head m0 l0 ls r).0.events) ((n, Rest) ∷ more) o
   read_case n m0 m more l0 l r now o c [] own e told shown =
       let done : now ≡ rest_of (clip_in head m0 l0).pictures (empty r) = sym (ap (λ (qs : List Picture). rest_of qs now) (sym (ap (λ (x : Clip). x.pictures) own) ∙ e)) ∙ told.run in
-      fault_case n more (clip_in head m0 l0).pictures r now (clip_in head m0 l0).fault o done (now_left m0 l0 r now done) shown
+      fault_case n more (clip_in head m0 l0).pictures r now (clip_in head m0 l0).fault o done shown
   read_case n m0 m more l0 l r now o c (p ∷ ps) own e told shown =
       let first : Run S = with_event codec (session_of head) (NextEvent p) now in
       let s : Run S = next_picture codec (session_of head) (is_late false) p now in
@@ -240,9 +158,9 @@ module _ {S : Type 0} (codec : Coding S) (head : Head) where
       let f : Follows all (onward codec head m0 l0 ((n, Rest) ∷ more) r).0 = rest_final n more (clip_in head m0 l0).pictures (clip_in head m0 l0).fault r in
       let events : (onward codec head m0 l0 ((n, Rest) ∷ more) r).0.events ≡ ((f.later ++ g.later) ++ NextEvent p ∷ []) ++ now.events =
       f.events ∙ (ap (λ es. f.later ++ es) g.events ∙ (sym (append_assoc f.later g.later (NextEvent p ∷ now.events)) ∙ sym (append_assoc (f.later ++ g.later) (NextEvent p ∷ []) now.events))) in
-      ((f.later ++ g.later) ++ NextEvent p ∷ [], (now.events, events, inr (p, (f.later ++ g.later, refl)), shown))
+      ((f.later ++ g.later) ++ NextEvent p ∷ [], (now.events, events, inl (inr (p, (f.later ++ g.later, refl))), shown))
 
-  read_told : (n m0 m : ℕ) (more : List Numbered) (l0 l : List ℕ) (r now : Run S) (b : Both S) (held : Option (List ℕ)) → IsRest m0 l0 r m l now → IsRunning codec head b held now → IfSome held (λ o. ToNextOf codec head (onward codec head m0 l0 ((n, Rest) ∷ more) r).0.events o)
+  read_told : (n m0 m : ℕ) (more : List Numbered) (l0 l : List ℕ) (r now : Run S) (b : Both S) (held : Option (List ℕ)) → IsRest m0 l0 r m l now → IsRunning codec head b held now → IfSome held (λ o. ToNextOf codec head (λ ls. (onward codec head m0 l0 ls r).0.events) ((n, Rest) ∷ more) o)
   read_told n m0 m more l0 l r now b None told is = tt
   read_told n m0 m more l0 l r now b (Some o) told is = read_case n m0 m more l0 l r now o (clip_in head m l) (clip_in head m l).pictures refl refl told (is.shown ∙ ap (λ w. out_text head w) is.world)
 
@@ -254,7 +172,7 @@ module _ {S : Type 0} (codec : Coding S) (head : Head) where
 
   module _ (gives : DiaryFault → Bool) where
     take_stops : (n m0 m : ℕ) (more : List Numbered) (left0 left left' : Option (List ℕ)) (r now : Run S) (b : Both S) (held : Option (List ℕ)) (why : Stop) → is_some left ≡ is_some left0 → TakeGives head m left left' (Err why) → IsRunning codec head b held now
-        → Told2 left0 left (λ l0 l. IsRest m0 l0 r m l now) → Halts codec head gives left0 held (λ l. onward codec head m0 l ((n, Rest) ∷ more) r) why
+        → Told2 left0 left (λ l0 l. IsRest m0 l0 r m l now) → Halts codec head gives left0 held (λ ls l. onward codec head m0 l ls r) ((n, Rest) ∷ more) why
     take_stops n m0 m more left0 left left' r now b held (stop.BadScript line) tells t is told = absurd t
     take_stops n m0 m more left0 left left' r now b held stop.Out tells t is told = absurd t
     take_stops n m0 m more left0 left left' r now b held (stop.Diary fault) tells t is told = absurd t
@@ -278,21 +196,32 @@ module _ {S : Type 0} (codec : Coding S) (head : Head) where
     take_stops n m0 m more (Some l0) (Some l) left' r now b held stop.Memory tells t is told = part_of codec head held b now _ is (now_follows n m0 m more l0 l r now told)
 
     pub rest_take_exit : (n m0 m : ℕ) (more : List Numbered) (left0 left left' : Option (List ℕ)) (r : Run S) (b : Both S) (d u : Marks) (held : Option (List ℕ)) (why : Stop) (now : RestLeft m0 left0 r m left b d u held) → is_some left ≡ is_some left0 → TakeGives head m left left' (Err why)
-        → Halts codec head gives left0 held (λ l. onward codec head m0 l ((n, Rest) ∷ more) r) why
+        → Halts codec head gives left0 held (λ ls l. onward codec head m0 l ls r) ((n, Rest) ∷ more) why
     rest_take_exit n m0 m more left0 left left' r b d u held why now tells t = take_stops n m0 m more left0 left left' r now.now b held why tells t now.here.running now.told
 
     turn_stops : (n m0 m m' : ℕ) (more : List Numbered) (left0 left left' : Option (List ℕ)) (r now : Run S) (held : Option (List ℕ)) (found : Option Picture) (p : Picture) (why : Stop) → is_some left' ≡ is_some left → is_some left ≡ is_some left0 → found ≡ Some p → TakeGives head m left left' (Ok found) → m' + 1 ≡ m
-        → Told2 left0 left (λ l0 l. IsRest m0 l0 r m l now) → Stopped codec head gives held (one_turn codec (session_of head) time_of p now).events why → Halts codec head gives left0 held (λ l. onward codec head m0 l ((n, Rest) ∷ more) r) why
-    turn_stops n m0 m m' more None left left' r now held found p why tells' tells e t count told p0 = stopped_untold codec head gives held _ why (λ l. onward codec head m0 l ((n, Rest) ∷ more) r) p0
+        → Told2 left0 left (λ l0 l. IsRest m0 l0 r m l now) → Stopped codec head gives held (one_turn codec (session_of head) time_of p now).events why → Halts codec head gives left0 held (λ ls l. onward codec head m0 l ls r) ((n, Rest) ∷ more) why
+    turn_stops n m0 m m' more None left left' r now held found p why tells' tells e t count told p0 = stopped_untold codec head gives held _ why (λ ls l. onward codec head m0 l ls r) ((n, Rest) ∷ more) p0
     turn_stops n m0 m m' more (Some l0) None left' r now held found p why tells' tells e t count told p0 = absurd (not_told tells)
     turn_stops n m0 m m' more (Some l0) (Some l) None r now held found p why tells' tells e t count told p0 = absurd (not_told tells')
     turn_stops n m0 m m' more (Some l0) (Some l) (Some l') r now held found p why tells' tells e t count told p0 =
         let next : IsRest m0 l0 r m' l' (one_turn codec (session_of head) time_of p now) = told_next m0 (Some l0) r m m' (Some l) (Some l') now found p tells e t count told in
         let f = now_follows n m0 m' more l0 l' r (one_turn codec (session_of head) time_of p now) next in
-        stopped_part codec head gives (Some l0) held (one_turn codec (session_of head) time_of p now).events (onward codec head m0 l0 ((n, Rest) ∷ more) r).0.events f.later l0 why (λ l. onward codec head m0 l ((n, Rest) ∷ more) r) refl f.events p0
+        stopped_part codec head gives (Some l0) held (one_turn codec (session_of head) time_of p now).events f.later l0 why (λ ls l. onward codec head m0 l ls r) ((n, Rest) ∷ more) refl f.events p0
+
+    -- what stops before the time passes
+    pub exchange_stops : (held : Option (List ℕ)) (p : Picture) (time : ℕ) (q : Run S) (why : Stop) → Stopped codec head gives held (exchange codec (session_of head) p q).events why → Stopped codec head gives held (one_turn codec (session_of head) time p q).events why
+    exchange_stops held p time q why p0 =
+        let g : Grows (exchange codec (session_of head) p q) (one_turn codec (session_of head) time p q) = wait_grows codec head time (exchange codec (session_of head) p q) in
+        stopped_later codec head gives held (exchange codec (session_of head) p q).events (one_turn codec (session_of head) time p q).events g.later why g.events p0
+
+    -- no step of a run is stopped by the input
+    pub unread : {X : Type 0} (held : Option (List ℕ)) (events : List Event) (result : Result X Stop) (why : Stop) (n m : ℕ) → n ≤ m → IsErrAnd result (λ e. e ≡ why) → Stopped codec head gives held events why → HasCause (Err stop.ReadFault) n m result
+    unread held events (Ok x) why n m le h p = absurd h
+    unread held events (Err e) why n m le h p = record { later = le; rose = λ q. let same : why ≡ stop.ReadFault = cc in absurd (subst (λ (s : Stop). Stopped codec head gives held events s) same p) }
 
     pub rest_turn_exit : (n m0 m m' : ℕ) (more : List Numbered) (left0 left left' : Option (List ℕ)) (r : Run S) (b : Both S) (d u : Marks) (held0 held : Option (List ℕ)) (found : Option Picture) (p : Picture) (time : ℕ) (why : Stop) (now : RestLeft m0 left0 r m left b d u held0)
         → is_some left' ≡ is_some left → is_some left ≡ is_some left0 → found ≡ Some p → TakeGives head m left left' (Ok found) → m' + 1 ≡ m → time ≡ time_of → Stopped codec head gives held (one_turn codec (session_of head) time p now.now).events why
-        → Halts codec head gives left0 held (λ l. onward codec head m0 l ((n, Rest) ∷ more) r) why
+        → Halts codec head gives left0 held (λ ls l. onward codec head m0 l ls r) ((n, Rest) ∷ more) why
     rest_turn_exit n m0 m m' more left0 left left' r b d u held0 held found p time why now tells' tells e t count same p0 =
         turn_stops n m0 m m' more left0 left left' r now.now held found p why tells' tells e t count now.told (subst (λ (k : ℕ). Stopped codec head gives held (one_turn codec (session_of head) k p now.now).events why) same p0)

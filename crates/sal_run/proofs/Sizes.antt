@@ -1,12 +1,10 @@
 -- The pictures of a clip have the head's size.
-use Rattle.std.proofs.Common.{◌≡◌, ℕ, zero, suc, ◌*◌, ◌≤◌, Bool, true, false, cond, List, [], ◌∷◌, length, take, drop, Option, Some, None, IfSome, refl, sym, subst}
+use Rattle.std.proofs.Common.{◌≡◌, ℕ, zero, suc, ◌*◌, Bool, true, false, cond, List, [], ◌∷◌, length, take, drop, Option, Some, None, IfSome, refl}
 use Rattle.std.specs.Prelude.{nat_le}
 use Rattle.std.proofs.lemmas.Bool.{leb-true}
 use Rattle.std.proofs.lemmas.List.{length-take-le}
 use Rattle.sal_base.specs.Lists.{Each}
-use Rattle.sal_base.specs.declared.picture.Plane.{Plane}
-use Rattle.sal_base.specs.declared.picture.Picture.{Picture}
-use Rattle.sal_base.specs.Picture.{half, IsPlane, IsPicture, AreSides}
+use Rattle.sal_base.specs.Picture.{half, IsPlane, AreSides}
 use Rattle.sal_codec.specs.Coding.{HasSides}
 use Rattle.sal_io.specs.Told.{Reading, ◌>>=◌, block_at}
 use Rattle.sal_y4m.specs.declared.head.Head.{Head}

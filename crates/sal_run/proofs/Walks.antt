@@ -1,5 +1,5 @@
 -- Datagrams and acknowledgements by number.
-use Rattle.std.proofs.Common.{◌≡◌, ℕ, zero, suc, ◌+◌, ◌-◌, ◌^◌, ◌<◌, ◌≤◌, min, Bool, true, false, cond, not, ◌||◌, ◌==◌, List, [], ◌∷◌, ◌++◌, length, map, Option, Some, None, Result, Ok, Err, IfSome, refl, ap, sym, ◌∙◌, subst, arith, append_assoc}
+use Rattle.std.proofs.Common.{◌≡◌, ℕ, zero, suc, ◌+◌, ◌-◌, ◌^◌, ◌<◌, ◌≤◌, min, Bool, true, false, cond, not, ◌||◌, ◌==◌, List, [], ◌∷◌, ◌++◌, length, map, Option, Result, Ok, Err, refl, ap, sym, ◌∙◌, subst, arith}
 use Rattle.std.proofs.lemmas.Bool.{eqb-true, eq-eqb}
 use Rattle.std.specs.List.{filter, list_any}
 use Rattle.std.specs.Result.{IsErrAnd}
@@ -10,8 +10,8 @@ use Rattle.sal_y4m.specs.declared.head.Head.{Head}
 use Rattle.sal_sender.specs.Jobs.{Job}
 use Rattle.sal_sender.specs.OneThread.{Session}
 use Rattle.sal_world.specs.Both.{Both}
-use Rattle.sal_world.specs.World.{Event, Down, Up, Ready, Moment, World, sent, acks, after}
-use Rattle.sal_world.specs.Script.{Run, downs_in, ups_in, unnamed, with_event, next_picture, drained, down, up, each, down_all, up_all, wait}
+use Rattle.sal_world.specs.World.{Event, Down, Up, Moment, acks}
+use Rattle.sal_world.specs.Script.{Run, downs_in, ups_in, unnamed, with_event, next_picture, down, up, each, wait}
 use Rattle.sal_run.specs.declared.diary.DiaryFault.{DiaryFault}
 use Rattle.sal_run.specs.declared.stop.Stop.{Stop}
 use Rattle.sal_run.specs.declared.stop.Stop.TheVariants.{Memory}

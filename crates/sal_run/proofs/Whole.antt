@@ -1,19 +1,19 @@
 -- How a whole run ends.
-use Rattle.std.proofs.Common.{◌≡◌, ◌≢◌, ℕ, zero, suc, ◌+◌, ◌-◌, ◌<◌, ◌≤◌, Bool, true, false, cond, List, [], ◌∷◌, ◌++◌, length, take, drop, get_or, Option, Some, None, Result, Ok, Err, IfSome, IfErr, OnOk, is_some, refl, ap, sym, ◌∙◌, subst, arith, append-nil, append_assoc, inl, inr, ◌⊎◌}
+use Rattle.std.proofs.Common.{◌≡◌, ℕ, zero, suc, ◌+◌, ◌<◌, ◌≤◌, Bool, true, false, List, [], ◌∷◌, ◌++◌, length, take, drop, get_or, Option, Some, None, Result, Ok, Err, IfSome, IfErr, OnOk, is_some, refl, ap, sym, ◌∙◌, subst, arith, append-nil, append_assoc, inl, inr}
 use Rattle.std.specs.Result.{IsErrAnd}
-use Rattle.std.proofs.lemmas.List.{at_drop_more, at_drop_all}
+use Rattle.std.proofs.lemmas.List.{at_drop_more, at_drop_all, take-append-drop}
+use Rattle.std.proofs.Math.Seq.{take-add}
 use Rattle.std.specs.Io.KnownBytes.{Appends}
 use Rattle.sal_base.specs.declared.picture.Picture.{Picture}
 use Rattle.sal_codec.specs.Coding.{Coding}
 use Rattle.sal_y4m.specs.declared.head.Head.{Head}
 use Rattle.sal_y4m.specs.declared.fault.Why.{Why}
 use Rattle.sal_y4m.specs.declared.fault.Why.TheVariants.{Form}
-use Rattle.sal_y4m.specs.declared.fault.WriteFault.{WriteFault as WriteFaultData}
-use Rattle.sal_y4m.specs.Answers.{Writes}
 use Rattle.sal_y4m.specs.Grammar.{picture_at, head_text}
+use Rattle.sal_script.specs.declared.line.ScriptLine.TheVariants.{Rest}
 use Rattle.sal_script.specs.Numbered.{Numbered}
 use Rattle.sal_world.specs.Both.{Both}
-use Rattle.sal_world.specs.World.{Event, World, start, after}
+use Rattle.sal_world.specs.World.{start, after}
 use Rattle.sal_world.specs.Stands.{Stands}
 use Rattle.sal_world.specs.Script.{Run, begun, downs_in, ups_in}
 use Rattle.sal_run.specs.declared.diary.DiaryFault.{DiaryFault}
@@ -25,14 +25,13 @@ use Rattle.sal_run.specs.declared.end.RunEnd.TheVariants as run
 use Rattle.sal_run.specs.declared.end.Which.TheVariants.{Out, Journal}
 use Rattle.sal_run.specs.Stops.{end_of, run_end}
 use Rattle.sal_run.specs.Clip.{End, Done, BadInput, BadScript, TooMany, TooLong, Clip, most}
-use Rattle.sal_run.specs.Loop.{session_of, out_text, or_end, ended, clip_run}
-use Rattle.sal_run.specs.Ends.{AtEnd, IsAtNext, ToldBoth, Partly, PartlyOrNot, UpToNext, Cut, Ends, RunGives}
+use Rattle.sal_run.specs.Loop.{session_of, out_text, or_end, clip_run}
+use Rattle.sal_run.specs.Ends.{AtEnd, ToldBoth, PartlyOrNot, Ends, RunGives}
 use Rattle.sal_run.specs.Marks.{Marks}
 use Rattle.sal_run.specs.Named.{AreNamed}
-use Rattle.sal_run.specs.Running.{Opened, IsNoted, IsRunning, PartlyOf, CutOf, Stopped, IsAt}
-use Rattle.sal_run.specs.Input.{clip_in, TakeGives, FinishGives, IsNothing, Told2, onward, EndsAs, ToNextOf, Halts, LineGoes}
+use Rattle.sal_run.specs.Running.{Opened, IsNoted, IsRunning, PartlyOf, CutOf, IsAt}
+use Rattle.sal_run.specs.Input.{clip_in, TakeGives, FinishGives, Told2, onward, EndsAs, ToNextOf, Halts, LineGoes, LinesGo}
 use Rattle.sal_run.proofs.Clips.{clip_some, clip_end, clip_broken, clip_over}
-use Rattle.sal_run.proofs.Onward.{some_is, run_from}
 
 not_told : false ≡ true → ⊥
 not_told e = absurd cc
@@ -44,92 +43,125 @@ drop_at all i d lt = at_drop_more (λ (xs : List Numbered). xs) all i d lt
 pub drop_end : (all : List Numbered) (i : ℕ) → length all ≤ i → drop i all ≡ []
 drop_end all i le = at_drop_all (λ (xs : List Numbered). xs) all i le
 
+-- the lines before a place, and those from there on
+split_at : (all : List Numbered) (i : ℕ) → take i all ++ drop i all ≡ all
+split_at all i = take-append-drop i all
+
+take_all : (all : List Numbered) (i : ℕ) → drop i all ≡ [] → take i all ≡ all
+take_all all i e = sym (append-nil (take i all)) ∙ (ap (λ (xs : List Numbered). take i all ++ xs) (sym e) ∙ split_at all i)
+
+take_more : (all : List Numbered) (numbered : Numbered) (i : ℕ) → drop i all ≡ numbered ∷ drop (i + 1) all → take (i + 1) all ≡ take i all ++ numbered ∷ []
+take_more all numbered i e = take-add i 1 all ∙ ap (λ (xs : List Numbered). take i all ++ take 1 xs) e
+
 module _ {S : Type 0} (codec : Coding S) (head : Head) where
   -- ---- the lines, one after the other
 
   pub record LinesLeft (m0 : ℕ) (left0 : Option (List ℕ)) (all : List Numbered) (r : Run S) (at m : ℕ) (left : Option (List ℕ)) (b : Both S) (d u : Marks) (held : Option (List ℕ)) : Type 0 where
     pub now : Run S
     pub here : IsAt codec head b d u held now
-    pub told : Told2 left0 left (λ l0 l. onward codec head m0 l0 all r ≡ onward codec head m l (drop at all) now)
+    pub told : Told2 left0 left (λ l0 l. (more : List Numbered) → onward codec head m0 l0 (take at all ++ more) r ≡ onward codec head m l more now)
 
-  same_told : (m : ℕ) (left : Option (List ℕ)) (all : List Numbered) (r : Run S) → Told2 left left (λ l0 l. onward codec head m l0 all r ≡ onward codec head m l all r)
-  same_told m None all r = tt
-  same_told m (Some l) all r = refl
+  same_told : (m : ℕ) (left : Option (List ℕ)) (r : Run S) → Told2 left left (λ l0 l. (more : List Numbered) → onward codec head m l0 more r ≡ onward codec head m l more r)
+  same_told m None r = tt
+  same_told m (Some l) r = λ more. refl
 
   pub lines_first : (m : ℕ) (left : Option (List ℕ)) (all : List Numbered) (r : Run S) (b : Both S) (d u : Marks) (held : Option (List ℕ)) → IsAt codec head b d u held r → LinesLeft m left all r 0 m left b d u held
-  lines_first m left all r b d u held at = record { now = r; here = at; told = same_told m left all r }
+  lines_first m left all r b d u held at = record { now = r; here = at; told = same_told m left r }
 
-  then_told : (m0 m m' : ℕ) (left0 left left' : Option (List ℕ)) (all lines more : List Numbered) (r now s : Run S) → is_some left ≡ is_some left0 → Told2 left0 left (λ l0 l. onward codec head m0 l0 all r ≡ onward codec head m l lines now)
-      → Told2 left left' (λ l l'. onward codec head m l lines now ≡ onward codec head m' l' more s) → Told2 left0 left' (λ l0 l'. onward codec head m0 l0 all r ≡ onward codec head m' l' more s)
-  then_told m0 m m' None left left' all lines more r now s tells a b = tt
-  then_told m0 m m' (Some l0) left None all lines more r now s tells a b = tt
-  then_told m0 m m' (Some l0) None (Some l') all lines more r now s tells a b = absurd (not_told tells)
-  then_told m0 m m' (Some l0) (Some l) (Some l') all lines more r now s tells a b = a ∙ b
+  -- the lines so far, with one more
+  one_more : (all : List Numbered) (numbered : Numbered) (at : ℕ) (more : List Numbered) → drop at all ≡ numbered ∷ drop (at + 1) all → take (at + 1) all ++ more ≡ take at all ++ numbered ∷ more
+  one_more all numbered at more e = ap (λ (xs : List Numbered). xs ++ more) (take_more all numbered at e) ∙ append_assoc (take at all) (numbered ∷ []) more
+
+  then_told : (m0 m m' : ℕ) (left0 left left' : Option (List ℕ)) (all : List Numbered) (numbered : Numbered) (at : ℕ) (r now s : Run S) → is_some left ≡ is_some left0 → drop at all ≡ numbered ∷ drop (at + 1) all
+      → Told2 left0 left (λ l0 l. (more : List Numbered) → onward codec head m0 l0 (take at all ++ more) r ≡ onward codec head m l more now) → Told2 left left' (λ l l'. (more : List Numbered) → onward codec head m l (numbered ∷ more) now ≡ onward codec head m' l' more s)
+      → Told2 left0 left' (λ l0 l'. (more : List Numbered) → onward codec head m0 l0 (take (at + 1) all ++ more) r ≡ onward codec head m' l' more s)
+  then_told m0 m m' None left left' all numbered at r now s tells e a b = tt
+  then_told m0 m m' (Some l0) left None all numbered at r now s tells e a b = tt
+  then_told m0 m m' (Some l0) None (Some l') all numbered at r now s tells e a b = absurd (not_told tells)
+  then_told m0 m m' (Some l0) (Some l) (Some l') all numbered at r now s tells e a b =
+      λ more. ap (λ (ls : List Numbered). onward codec head m0 l0 ls r) (one_more all numbered at more e) ∙ (a (numbered ∷ more) ∙ b more)
+
+  whole_told : (m0 m : ℕ) (left0 left : Option (List ℕ)) (first all : List Numbered) (r now : Run S) → first ≡ all → Told2 left0 left (λ l0 l. (more : List Numbered) → onward codec head m0 l0 (first ++ more) r ≡ onward codec head m l more now) → Told2 left0 left (λ l0 l. onward codec head m0 l0 all r ≡ onward codec head m l [] now)
+  whole_told m0 m None left first all r now e a = tt
+  whole_told m0 m (Some l0) None first all r now e a = tt
+  whole_told m0 m (Some l0) (Some l) first all r now e a = ap (λ (ls : List Numbered). onward codec head m0 l0 ls r) (sym (append-nil first ∙ e)) ∙ a []
+
+  -- what a read fault leaves, seen from the start of the lines
+  next_from : (final0 final : List Numbered → Run S × End) (first lines all : List Numbered) (o : List ℕ) → all ≡ first ++ lines → ((more : List Numbered) → final0 (first ++ more) ≡ final more) → ToNextOf codec head (λ ls. (final ls).0.events) lines o → ToNextOf codec head (λ ls. (final0 ls).0.events) all o
+  next_from final0 final first lines all o e same (later, (before, events, inl at, shown)) =
+      (later, (before, ap (λ (t : Run S × End). t.0.events) (ap final0 e ∙ same lines) ∙ events, inl at, shown))
+  next_from final0 final first lines all o e same (later, (before, events, inr (front, (n, (others, split, own))), shown)) = (
+    later,
+    (
+      before,
+      ap (λ (t : Run S × End). t.0.events) (ap final0 e ∙ same lines) ∙ events,
+      inr (
+        first ++ front,
+        (
+          n,
+          (
+            others,
+            e ∙ (ap (λ (xs : List Numbered). first ++ xs) split ∙ sym (append_assoc first front ((n, Rest) ∷ others))),
+            own ∙ ap (λ (t : Run S × End). t.0.events) (sym (ap final0 (append_assoc first front ((n, Rest) ∷ [])) ∙ same (front ++ (n, Rest) ∷ []))),
+          ),
+        ),
+      ),
+      shown,
+    ),
+  )
 
   module _ (gives : DiaryFault → Bool) where
-    pub lines_next : (m0 m m' : ℕ) (left0 left left' : Option (List ℕ)) (all : List Numbered) (numbered : Numbered) (r : Run S) (at : ℕ) (b0 b : Both S) (d0 u0 d u : Marks) (held0 held : Option (List ℕ)) (now : LinesLeft m0 left0 all r at m left b0 d0 u0 held0) → is_some left ≡ is_some left0
-        → drop at all ≡ numbered ∷ drop (at + 1) all → (s : Run S) × (IsAt codec head b d u held s × Told2 left left' (λ l l'. onward codec head m l (numbered ∷ drop (at + 1) all) now.now ≡ onward codec head m' l' (drop (at + 1) all) s))
-        → LinesLeft m0 left0 all r (at + 1) m' left' b d u held
-    lines_next m0 m m' left0 left left' all numbered r at b0 b d0 u0 d u held0 held now tells e s = record {
-      now = s.0;
-      here = s.1.0;
-      told = then_told m0 m m' left0 left left' all (numbered ∷ drop (at + 1) all) (drop (at + 1) all) r now.now s.0 tells
-          (subst (λ (ls : List Numbered). Told2 left0 left (λ l0 l. onward codec head m0 l0 all r ≡ onward codec head m l ls now.now)) e now.told) s.1.1;
-    }
-
     -- what stops the run from here stops it from the start
-    pub halts_from : (left0 left held : Option (List ℕ)) (final0 final : List ℕ → Run S × End) (why : Stop) → is_some left ≡ is_some left0 → Told2 left0 left (λ l0 l. final0 l0 ≡ final l) → Halts codec head gives left held final why → Halts codec head gives left0 held final0 why
-    halts_from None left held final0 final (stop.BadInput place w) tells same p = tt
-    halts_from None left held final0 final (stop.BadScript line) tells same p = tt
-    halts_from None left held final0 final stop.TooMany tells same p = tt
-    halts_from None left held final0 final stop.TooLong tells same p = tt
-    halts_from None left held final0 final stop.ReadFault tells same p = tt
-    halts_from None left held final0 final stop.Out tells same p = tt
-    halts_from None left held final0 final (stop.Diary fault) tells same p = (p.0, tt)
-    halts_from None left held final0 final stop.Memory tells same p = tt
-    halts_from (Some l0) None held final0 final why tells same p = absurd (not_told tells)
-    halts_from (Some l0) (Some l) held final0 final (stop.BadInput place w) tells same p = subst (λ (t : Run S × End). EndsAs codec head held (BadInput place w) t) (sym same) p
-    halts_from (Some l0) (Some l) held final0 final (stop.BadScript line) tells same p = subst (λ (t : Run S × End). EndsAs codec head held (BadScript line) t) (sym same) p
-    halts_from (Some l0) (Some l) held final0 final stop.TooMany tells same p = subst (λ (t : Run S × End). EndsAs codec head held TooMany t) (sym same) p
-    halts_from (Some l0) (Some l) held final0 final stop.TooLong tells same p = subst (λ (t : Run S × End). EndsAs codec head held TooLong t) (sym same) p
-    halts_from (Some l0) (Some l) held final0 final stop.ReadFault tells same p = subst (λ (t : Run S × End). IfSome held (λ o. ToNextOf codec head t.0.events o)) (sym same) p
-    halts_from (Some l0) (Some l) held final0 final stop.Out tells same p = subst (λ (t : Run S × End). IfSome held (λ o. CutOf codec head t.0.events o)) (sym same) p
-    halts_from (Some l0) (Some l) held final0 final (stop.Diary fault) tells same p = (p.0, subst (λ (t : Run S × End). IfSome held (λ o. PartlyOf codec head t.0.events o)) (sym same) p.1)
-    halts_from (Some l0) (Some l) held final0 final stop.Memory tells same p = subst (λ (t : Run S × End). IfSome held (λ o. PartlyOf codec head t.0.events o)) (sym same) p
+    pub halts_from : (left0 left held : Option (List ℕ)) (final0 final : List Numbered → List ℕ → Run S × End) (first lines all : List Numbered) (why : Stop) → all ≡ first ++ lines → is_some left ≡ is_some left0
+        → Told2 left0 left (λ l0 l. (more : List Numbered) → final0 (first ++ more) l0 ≡ final more l) → Halts codec head gives left held final lines why → Halts codec head gives left0 held final0 all why
+    halts_from None left held final0 final first lines all (stop.BadInput place w) e tells same p = tt
+    halts_from None left held final0 final first lines all (stop.BadScript line) e tells same p = tt
+    halts_from None left held final0 final first lines all stop.TooMany e tells same p = tt
+    halts_from None left held final0 final first lines all stop.TooLong e tells same p = tt
+    halts_from None left held final0 final first lines all stop.ReadFault e tells same p = tt
+    halts_from None left held final0 final first lines all stop.Out e tells same p = tt
+    halts_from None left held final0 final first lines all (stop.Diary fault) e tells same p = (p.0, tt)
+    halts_from None left held final0 final first lines all stop.Memory e tells same p = tt
+    halts_from (Some l0) None held final0 final first lines all why e tells same p = absurd (not_told tells)
+    halts_from (Some l0) (Some l) held final0 final first lines all (stop.BadInput place w) e tells same p = subst (λ (t : Run S × End). EndsAs codec head held (BadInput place w) t) (sym (ap (λ ls. final0 ls l0) e ∙ same lines)) p
+    halts_from (Some l0) (Some l) held final0 final first lines all (stop.BadScript line) e tells same p = subst (λ (t : Run S × End). EndsAs codec head held (BadScript line) t) (sym (ap (λ ls. final0 ls l0) e ∙ same lines)) p
+    halts_from (Some l0) (Some l) held final0 final first lines all stop.TooMany e tells same p = subst (λ (t : Run S × End). EndsAs codec head held TooMany t) (sym (ap (λ ls. final0 ls l0) e ∙ same lines)) p
+    halts_from (Some l0) (Some l) held final0 final first lines all stop.TooLong e tells same p = subst (λ (t : Run S × End). EndsAs codec head held TooLong t) (sym (ap (λ ls. final0 ls l0) e ∙ same lines)) p
+    halts_from (Some l0) (Some l) None final0 final first lines all stop.ReadFault e tells same p = tt
+    halts_from (Some l0) (Some l) (Some o) final0 final first lines all stop.ReadFault e tells same p = next_from (λ ls. final0 ls l0) (λ ls. final ls l) first lines all o e same p
+    halts_from (Some l0) (Some l) held final0 final first lines all stop.Out e tells same p = subst (λ (t : Run S × End). IfSome held (λ o. CutOf codec head t.0.events o)) (sym (ap (λ ls. final0 ls l0) e ∙ same lines)) p
+    halts_from (Some l0) (Some l) held final0 final first lines all (stop.Diary fault) e tells same p = (p.0, subst (λ (t : Run S × End). IfSome held (λ o. PartlyOf codec head t.0.events o)) (sym (ap (λ ls. final0 ls l0) e ∙ same lines)) p.1)
+    halts_from (Some l0) (Some l) held final0 final first lines all stop.Memory e tells same p = subst (λ (t : Run S × End). IfSome held (λ o. PartlyOf codec head t.0.events o)) (sym (ap (λ ls. final0 ls l0) e ∙ same lines)) p
 
-    pub lines_exit : (m0 m : ℕ) (left0 left : Option (List ℕ)) (all : List Numbered) (numbered : Numbered) (r : Run S) (at : ℕ) (b0 : Both S) (d0 u0 : Marks) (held0 held : Option (List ℕ)) (why : Stop) (now : LinesLeft m0 left0 all r at m left b0 d0 u0 held0) → is_some left ≡ is_some left0
-        → drop at all ≡ numbered ∷ drop (at + 1) all → Halts codec head gives left held (λ l. onward codec head m l (numbered ∷ drop (at + 1) all) now.now) why → Halts codec head gives left0 held (λ l. onward codec head m0 l all r) why
-    lines_exit m0 m left0 left all numbered r at b0 d0 u0 held0 held why now tells e p =
-        halts_from left0 left held (λ l. onward codec head m0 l all r) (λ l. onward codec head m l (numbered ∷ drop (at + 1) all) now.now) why tells
-        (subst (λ (ls : List Numbered). Told2 left0 left (λ l0 l. onward codec head m0 l0 all r ≡ onward codec head m l ls now.now)) e now.told) p
+    pub lines_exit : (all : List Numbered) (m m' : ℕ) (left left' : Option (List ℕ)) (b : Both S) (d u : Marks) (held : Option (List ℕ)) (r : Run S) (result : Result (Unit {0}) Stop) (why : Stop) → IsErrAnd result (λ e. e ≡ why)
+        → Halts codec head gives left held (λ ls l. onward codec head m l ls r) all why → LinesGo codec head gives all m m' left left' b d u held r result
+    lines_exit all m m' left left' b d u held r (Ok x) why h p = absurd h
+    lines_exit all m m' left left' b d u held r (Err e) why h p = subst (λ s. Halts codec head gives left held (λ ls l. onward codec head m l ls r) all s) (sym h) p
 
     pub lines_last : (m0 m : ℕ) (left0 left : Option (List ℕ)) (all : List Numbered) (r : Run S) (at : ℕ) (b : Both S) (d u : Marks) (held : Option (List ℕ)) (now : LinesLeft m0 left0 all r at m left b d u held) → drop at all ≡ []
         → (s : Run S) × (IsAt codec head b d u held s × Told2 left0 left (λ l0 l. onward codec head m0 l0 all r ≡ onward codec head m l [] s))
-    lines_last m0 m left0 left all r at b d u held now e = (now.now, (now.here, subst (λ (ls : List Numbered). Told2 left0 left (λ l0 l. onward codec head m0 l0 all r ≡ onward codec head m l ls now.now)) e now.told))
+    lines_last m0 m left0 left all r at b d u held now e = (now.now, (now.here, whole_told m0 m left0 left (take at all) all r now.now (take_all all at e) now.told))
 
     -- a line whose contract speaks of the reader's head
     abbrev LineDid : Head → Numbered → ℕ → ℕ → Option (List ℕ) → Option (List ℕ) → Both S → Marks → Marks → Option (List ℕ) → Both S → Marks → Marks → Option (List ℕ) → Result (Unit {0}) Stop → Type 0
-    LineDid h numbered m m' left left' b0 d0 u0 held0 b d u held result =
-        (more : List Numbered) (q : Run S) → IsAt codec h b0 d0 u0 held0 q → LineGoes codec h gives (numbered ∷ more) more m m' left left' b d u held q result
+    LineDid h numbered m m' left left' b0 d0 u0 held0 b d u held result = (q : Run S) → IsAt codec h b0 d0 u0 held0 q → LineGoes codec h gives numbered m m' left left' b d u held q result
 
     pub line_err : (h : Head) (m0 m m' : ℕ) (left0 left left' : Option (List ℕ)) (all : List Numbered) (numbered : Numbered) (r : Run S) (at : ℕ) (b0 b : Both S) (d0 u0 d u : Marks) (held0 held : Option (List ℕ)) (result : Result (Unit {0}) Stop) (why : Stop)
         (now : LinesLeft m0 left0 all r at m left b0 d0 u0 held0) → h ≡ head → result ≡ Err why → is_some left ≡ is_some left0 → drop at all ≡ numbered ∷ drop (at + 1) all
-        → LineDid h numbered m m' left left' b0 d0 u0 held0 b d u held result → Halts codec head gives left0 held (λ l. onward codec head m0 l all r) why
+        → LineDid h numbered m m' left left' b0 d0 u0 held0 b d u held result → Halts codec head gives left0 held (λ ls l. onward codec head m0 l ls r) all why
     line_err h m0 m m' left0 left left' all numbered r at b0 b d0 u0 d u held0 held result why now same was tells e did =
         let own : LineDid head numbered m m' left left' b0 d0 u0 held0 b d u held result = subst (λ x. LineDid x numbered m m' left left' b0 d0 u0 held0 b d u held result) same did in
         let stopped : Result (Unit {0}) Stop = Err why in
-        let goes : LineGoes codec head gives (numbered ∷ drop (at + 1) all) (drop (at + 1) all) m m' left left' b d u held now.now stopped =
-        subst (λ (x : Result (Unit {0}) Stop). LineGoes codec head gives (numbered ∷ drop (at + 1) all) (drop (at + 1) all) m m' left left' b d u held now.now x) was (own (drop (at + 1) all) now.now now.here) in
-        lines_exit m0 m left0 left all numbered r at b0 d0 u0 held0 held why now tells e goes
+        let goes : LineGoes codec head gives numbered m m' left left' b d u held now.now stopped = subst (λ (x : Result (Unit {0}) Stop). LineGoes codec head gives numbered m m' left left' b d u held now.now x) was (own now.now now.here) in
+        halts_from left0 left held (λ ls l. onward codec head m0 l ls r) (λ ls l. onward codec head m l ls now.now) (take at all) (numbered ∷ drop (at + 1) all) all why (sym (split_at all at) ∙ ap (λ (xs : List Numbered). take at all ++ xs) e) tells now.told (goes (drop (at + 1) all))
 
     pub line_ok : (h : Head) (m0 m m' : ℕ) (left0 left left' : Option (List ℕ)) (all : List Numbered) (numbered : Numbered) (r : Run S) (at : ℕ) (b0 b : Both S) (d0 u0 d u : Marks) (held0 held : Option (List ℕ)) (result : Result (Unit {0}) Stop) (x : Unit {0})
         (now : LinesLeft m0 left0 all r at m left b0 d0 u0 held0) → h ≡ head → result ≡ Ok x → is_some left ≡ is_some left0 → drop at all ≡ numbered ∷ drop (at + 1) all
         → LineDid h numbered m m' left left' b0 d0 u0 held0 b d u held result → LinesLeft m0 left0 all r (at + 1) m' left' b d u held
     line_ok h m0 m m' left0 left left' all numbered r at b0 b d0 u0 d u held0 held result x now same was tells e did =
         let own : LineDid head numbered m m' left left' b0 d0 u0 held0 b d u held result = subst (λ x. LineDid x numbered m m' left left' b0 d0 u0 held0 b d u held result) same did in
-        let goes : LineGoes codec head gives (numbered ∷ drop (at + 1) all) (drop (at + 1) all) m m' left left' b d u held now.now (Ok x) =
-        subst (λ (x : Result (Unit {0}) Stop). LineGoes codec head gives (numbered ∷ drop (at + 1) all) (drop (at + 1) all) m m' left left' b d u held now.now x) was (own (drop (at + 1) all) now.now now.here) in
-        lines_next m0 m m' left0 left left' all numbered r at b0 b d0 u0 d u held0 held now tells e goes
+        let goes : LineGoes codec head gives numbered m m' left left' b d u held now.now (Ok x) = subst (λ (x : Result (Unit {0}) Stop). LineGoes codec head gives numbered m m' left left' b d u held now.now x) was (own now.now now.here) in
+        record { now = goes.0; here = goes.1.0; told = then_told m0 m m' left0 left left' all numbered at r now.now goes.0 tells e now.told goes.1.1 }
 
 -- ---- the rest of the input
 
@@ -186,8 +218,11 @@ finish_exit head m left left' (Err e) why h p = subst (λ s. FinishGives head m 
 -- ---- a whole run
 
 module _ {S : Type 0} (codec : Coding S) (head : Head) (lines : List Numbered) (gives : DiaryFault → Bool) where
+  abbrev run_by : List Numbered → List ℕ → Run S × End
+  run_by ls i = clip_run codec head i ls
+
   abbrev run_of : List ℕ → Run S × End
-  run_of i = clip_run codec head i lines
+  run_of i = run_by lines i
 
   part_either : (i o : Option (List ℕ)) → Told2 i o (λ l p. PartlyOf codec head (run_of l).0.events p) → ToldBoth codec head lines i o (PartlyOrNot codec head lines)
   part_either None o h = tt
@@ -200,7 +235,7 @@ module _ {S : Type 0} (codec : Coding S) (head : Head) (lines : List Numbered) (
   nothing_either (Some l) (Some p) h = inl h
 
   -- what a run gives that stops
-  pub halts_gives : (i o : Option (List ℕ)) (why : Stop) → Halts codec head gives i o run_of why → RunGives codec head lines gives (end_of why) i o
+  pub halts_gives : (i o : Option (List ℕ)) (why : Stop) → Halts codec head gives i o run_by lines why → RunGives codec head lines gives (end_of why) i o
   halts_gives i o (stop.BadInput place w) h = h
   halts_gives i o (stop.BadScript line) h = h
   halts_gives i o stop.TooMany h = h
@@ -268,7 +303,7 @@ module _ {S : Type 0} (codec : Coding S) (head : Head) (lines : List Numbered) (
   pub finish_halts : (m : ℕ) (i left left' held : Option (List ℕ)) (s : Run S) (b : Both S) (why : Stop) → is_some left ≡ is_some i → IsRunning codec head b held s → Told2 i left (λ i l. run_of i ≡ onward codec head m l [] s) → FinishGives head m left left' (Err why) → RunGives codec head lines gives (end_of why) i held
   finish_halts m i left left' held s b why tells is told f = halts_gives i held why (finished i left why tells told f)
     where
-      finished : (i left : Option (List ℕ)) (why : Stop) → is_some left ≡ is_some i → Told2 i left (λ i l. run_of i ≡ onward codec head m l [] s) → FinishGives head m left left' (Err why) → Halts codec head gives i held run_of why
+      finished : (i left : Option (List ℕ)) (why : Stop) → is_some left ≡ is_some i → Told2 i left (λ i l. run_of i ≡ onward codec head m l [] s) → FinishGives head m left left' (Err why) → Halts codec head gives i held run_by lines why
       finished i left (stop.BadScript line) tells told f = absurd f
       finished i left stop.Out tells told f = absurd f
       finished i left (stop.Diary fault) tells told f = absurd f
@@ -283,9 +318,9 @@ module _ {S : Type 0} (codec : Coding S) (head : Head) (lines : List Numbered) (
       finished (Some j) (Some l) stop.TooLong tells told f = ends_whole held (run_of j) _ s TooLong (told ∙ end_at m l s (Some TooLong) f) refl is.shown
       finished (Some j) (Some l) stop.ReadFault tells told f = read_failed held (ap (λ (t : Run S × End). t.0.events) told) is.shown
         where
-          read_failed : (held : Option (List ℕ)) → (run_of j).0.events ≡ s.events → IfSome held (λ o. o ≡ out_text head s.world) → IfSome held (λ o. ToNextOf codec head (run_of j).0.events o)
+          read_failed : (held : Option (List ℕ)) → (run_of j).0.events ≡ s.events → IfSome held (λ o. o ≡ out_text head s.world) → IfSome held (λ o. ToNextOf codec head (λ ls. (run_by ls j).0.events) lines o)
           read_failed None e shown = tt
-          read_failed (Some o) e shown = ([], (s.events, e, inl tt, shown ∙ ap (λ w. out_text head w) is.world))
+          read_failed (Some o) e shown = ([], (s.events, e, inl (inl refl), shown ∙ ap (λ w. out_text head w) is.world))
       finished (Some j) (Some l) stop.Memory tells told f = memory_lacked held (ap (λ (t : Run S × End). t.0.events) told) is.shown
         where
           memory_lacked : (held : Option (List ℕ)) → (run_of j).0.events ≡ s.events → IfSome held (λ o. o ≡ out_text head s.world) → IfSome held (λ o. PartlyOf codec head (run_of j).0.events o)
@@ -306,7 +341,7 @@ module _ {S : Type 0} (codec : Coding S) (head : Head) (lines : List Numbered) (
       part None j e shown = tt
       part (Some o) j e shown = ([], (s.events, e, shown ∙ ap (λ w. out_text head w) is.world))
 
-      noted : (i left : Option (List ℕ)) (why : Stop) → is_some left ≡ is_some i → Told2 i left (λ i l. run_of i ≡ onward codec head m l [] s) → IsNoted gives (Err why) → Halts codec head gives i held run_of why
+      noted : (i left : Option (List ℕ)) (why : Stop) → is_some left ≡ is_some i → Told2 i left (λ i l. run_of i ≡ onward codec head m l [] s) → IsNoted gives (Err why) → Halts codec head gives i held run_by lines why
       noted i left (stop.BadInput place w) tells told n = absurd n
       noted i left (stop.BadScript line) tells told n = absurd n
       noted i left stop.TooMany tells told n = absurd n
@@ -330,10 +365,10 @@ module _ {S : Type 0} (codec : Coding S) (head : Head) (lines : List Numbered) (
   run_exit i o (Err e) why h p = subst (λ (s : Stop). RunGives codec head lines gives (end_of s) i o) (sym h) p
 
   -- a line stopped the run
-  pub lines_gives : (m : ℕ) (i o : Option (List ℕ)) (all : List Numbered) (result : Result (Unit {0}) Stop) (why : Stop) → m ≡ most head → all ≡ lines → IsErrAnd result (λ e. e ≡ why) → Halts codec head gives i o (λ l. onward codec head m l all (begun [])) why → RunGives codec head lines gives (run_end result) i o
+  pub lines_gives : (m : ℕ) (i o : Option (List ℕ)) (all : List Numbered) (result : Result (Unit {0}) Stop) (why : Stop) → m ≡ most head → all ≡ lines → IsErrAnd result (λ e. e ≡ why) → Halts codec head gives i o (λ ls l. onward codec head m l ls (begun [])) all why → RunGives codec head lines gives (run_end result) i o
   lines_gives m i o all result why e same h p =
       run_exit i o result why h
-      (halts_gives i o why (subst (λ (ls : List Numbered). Halts codec head gives i o (λ l. onward codec head (most head) l ls (begun [])) why) same (subst (λ (k : ℕ). Halts codec head gives i o (λ l. onward codec head k l all (begun [])) why) e p)))
+      (halts_gives i o why (subst (λ (xs : List Numbered). Halts codec head gives i o (λ ls l. onward codec head (most head) l ls (begun [])) xs why) same (subst (λ (k : ℕ). Halts codec head gives i o (λ ls l. onward codec head k l ls (begun [])) all why) e p)))
 
   -- the rest of the input stopped the run
   pub finish_gives : (h : Head) (m m' : ℕ) (i left left' held : Option (List ℕ)) (all : List Numbered) (b : Both S) (d u : Marks) (result : Result (Unit {0}) Stop) (why : Stop) → h ≡ head → m ≡ most head → all ≡ lines → is_some left ≡ is_some i

@@ -1,5 +1,5 @@
 -- The pictures of a clip that a session takes, and how a run ends that asks for one more.
-use Rattle.std.specs.Prelude.{ℕ, ◌+◌, ◌*◌, ◌/◌, min, List, length, take, Option, Some, None, nat_lt, nat_le, if◌then◌else◌}
+use Rattle.std.specs.Prelude.{ℕ, ◌+◌, ◌/◌, min, List, length, take, Option, Some, None, nat_lt, nat_le, if◌then◌else◌}
 use Rattle.sal_base.specs.declared.picture.Picture.{Picture}
 use Rattle.sal_y4m.specs.declared.head.Head.{Head}
 use Rattle.sal_y4m.specs.declared.fault.Why.{Why}

@@ -1,9 +1,9 @@
 -- What a run gives, by how it ends: of the bytes that its input had left, and of those that its output then holds.
 use Rattle.std.specs.Prelude.{◌≡◌, ◌⊎◌, ℕ, List, [], ◌∷◌, ◌++◌, take, Bool, true, Option, IfSome}
 use Rattle.sal_base.specs.declared.picture.Picture.{Picture}
-use Rattle.sal_base.specs.Lists.{Each}
 use Rattle.sal_codec.specs.Coding.{Coding}
 use Rattle.sal_y4m.specs.declared.head.Head.{Head}
+use Rattle.sal_script.specs.declared.line.ScriptLine.TheVariants.{Rest}
 use Rattle.sal_script.specs.Numbered.{Numbered}
 use Rattle.sal_world.specs.World.{Event, Next, after}
 use Rattle.sal_world.specs.Promises.{Names, Holds}
@@ -15,14 +15,14 @@ use Rattle.sal_run.specs.declared.end.RunEnd.TheVariants as run
 use Rattle.sal_run.specs.Clip.{End, Done, BadInput, BadScript, TooMany, TooLong}
 use Rattle.sal_run.specs.Loop.{session_of, out_text, clip_run}
 
--- any event but the start of a picture
-abbrev pub IsNoNext : Event → Type 0
-IsNoNext (Next picture) = ⊥
-IsNoNext _ = Unit {0}
-
--- no event that came after these starts a picture, or the next one does
+-- no event came after these, or the next one started a picture
 abbrev pub IsAtNext : List Event → Type 0
-IsAtNext later = Each IsNoNext later ⊎ ((picture : Picture) × ((more : List Event) × (later ≡ more ++ Next picture ∷ [])))
+IsAtNext later = (later ≡ []) ⊎ ((picture : Picture) × ((more : List Event) × (later ≡ more ++ Next picture ∷ [])))
+
+-- these events are all those of the lines up to a `rest`, where the events of lines are these
+abbrev pub IsAtRest : (List Numbered → List Event) → List Numbered → List Event → Type 0
+IsAtRest events lines before =
+    (first : List Numbered) × ((number : ℕ) × ((others : List Numbered) × (lines ≡ first ++ (number, Rest) ∷ others) × (before ≡ events (first ++ (number, Rest) ∷ []))))
 
 module _ {S : Type 0} (codec : Coding S) (head : Head) (lines : List Numbered) where
   -- the run ended so, and the output holds the header and all pictures shown
@@ -41,9 +41,10 @@ module _ {S : Type 0} (codec : Coding S) (head : Head) (lines : List Numbered) w
   abbrev pub Partly : List ℕ → List ℕ → Type 0
   Partly i o = (later : List Event) × ((before : List Event) × AreEvents i later before × (o ≡ text_after before))
 
-  -- the same, of the events before a picture is started, or after which none is
+  -- the same, of the events before a picture is started, of all events of the lines up to a `rest`, or of all
   abbrev pub UpToNext : List ℕ → List ℕ → Type 0
-  UpToNext i o = (later : List Event) × ((before : List Event) × AreEvents i later before × IsAtNext later × (o ≡ text_after before))
+  UpToNext i o =
+      (later : List Event) × ((before : List Event) × AreEvents i later before × (IsAtNext later ⊎ IsAtRest (λ ls. (clip_run codec head i ls).0.events) lines before) × (o ≡ text_after before))
 
   -- the output holds a front of that
   abbrev pub Cut : List ℕ → List ℕ → Type 0

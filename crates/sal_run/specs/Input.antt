@@ -1,5 +1,5 @@
 -- What is left of an input, and of a run over it.
-use Rattle.std.specs.Prelude.{◌≡◌, ◌≢◌, ◌<◌, ℕ, ◌+◌, List, [], ◌∷◌, ◌++◌, length, take, Bool, true, false, Option, Some, None, IfSome, Result, Ok, Err, nat_lt, if◌then◌else◌}
+use Rattle.std.specs.Prelude.{◌≡◌, ◌≢◌, ◌⊎◌, ◌<◌, ℕ, ◌+◌, List, [], ◌∷◌, ◌++◌, length, take, Bool, true, false, Option, Some, None, IfSome, Result, Ok, Err, nat_lt, if◌then◌else◌}
 use Rattle.sal_base.specs.declared.picture.Picture.{Picture}
 use Rattle.sal_codec.specs.Coding.{Coding}
 use Rattle.sal_io.specs.Told.{ReadsAs}
@@ -18,7 +18,7 @@ use Rattle.sal_run.specs.declared.stop.Stop.TheVariants as stop
 use Rattle.sal_run.specs.Front.{front, is_empty}
 use Rattle.sal_run.specs.Clip.{End, BadInput, BadScript, TooMany, TooLong, over, Clip}
 use Rattle.sal_run.specs.Loop.{session_of, out_text, ended}
-use Rattle.sal_run.specs.Ends.{IsAtNext}
+use Rattle.sal_run.specs.Ends.{IsAtNext, IsAtRest}
 use Rattle.sal_run.specs.Marks.{Marks}
 use Rattle.sal_run.specs.Running.{PartlyOf, CutOf, IsAt}
 
@@ -88,22 +88,29 @@ module _ {S : Type 0} (codec : Coding S) (head : Head) where
   abbrev pub EndsAs : Option (List ℕ) → End → Run S × End → Type 0
   EndsAs held end t = (t.1 ≡ end) × IfSome held (λ o. o ≡ out_text head t.0.world)
 
-  -- the output holds what the events before a picture is started make it hold, or all
-  abbrev pub ToNextOf : List Event → List ℕ → Type 0
-  ToNextOf events o = (later : List Event) × ((before : List Event) × (events ≡ later ++ before) × IsAtNext later × (o ≡ out_text head (after codec (session_of head) before)))
+  -- the output holds what the events of these lines before a picture is started make it hold, those up to a `rest`, or all
+  abbrev pub ToNextOf : (List Numbered → List Event) → List Numbered → List ℕ → Type 0
+  ToNextOf events lines o =
+      (later : List Event) × ((before : List Event) × (events lines ≡ later ++ before) × (IsAtNext later ⊎ IsAtRest events lines before) × (o ≡ out_text head (after codec (session_of head) before)))
 
-  -- why a run stops, of what was left of its input and where it leads
-  abbrev pub Halts : (DiaryFault → Bool) → Option (List ℕ) → Option (List ℕ) → (List ℕ → Run S × End) → Stop → Type 0
-  Halts gives left held final (stop.BadInput place why) = IfSome left (λ l. EndsAs held (BadInput place why) (final l))
-  Halts gives left held final (stop.BadScript line) = IfSome left (λ l. EndsAs held (BadScript line) (final l))
-  Halts gives left held final stop.TooMany = IfSome left (λ l. EndsAs held TooMany (final l))
-  Halts gives left held final stop.TooLong = IfSome left (λ l. EndsAs held TooLong (final l))
-  Halts gives left held final stop.ReadFault = Told2 left held (λ l o. ToNextOf (final l).0.events o)
-  Halts gives left held final stop.Out = Told2 left held (λ l o. CutOf codec head (final l).0.events o)
-  Halts gives left held final (stop.Diary fault) = (gives fault ≡ true) × Told2 left held (λ l o. PartlyOf codec head (final l).0.events o)
-  Halts gives left held final stop.Memory = Told2 left held (λ l o. PartlyOf codec head (final l).0.events o)
+  -- why a run of these lines stops, of what was left of its input and where lines lead
+  abbrev pub Halts : (DiaryFault → Bool) → Option (List ℕ) → Option (List ℕ) → (List Numbered → List ℕ → Run S × End) → List Numbered → Stop → Type 0
+  Halts gives left held final lines (stop.BadInput place why) = IfSome left (λ l. EndsAs held (BadInput place why) (final lines l))
+  Halts gives left held final lines (stop.BadScript line) = IfSome left (λ l. EndsAs held (BadScript line) (final lines l))
+  Halts gives left held final lines stop.TooMany = IfSome left (λ l. EndsAs held TooMany (final lines l))
+  Halts gives left held final lines stop.TooLong = IfSome left (λ l. EndsAs held TooLong (final lines l))
+  Halts gives left held final lines stop.ReadFault = Told2 left held (λ l o. ToNextOf (λ ls. (final ls l).0.events) lines o)
+  Halts gives left held final lines stop.Out = Told2 left held (λ l o. CutOf codec head (final lines l).0.events o)
+  Halts gives left held final lines (stop.Diary fault) = (gives fault ≡ true) × Told2 left held (λ l o. PartlyOf codec head (final lines l).0.events o)
+  Halts gives left held final lines stop.Memory = Told2 left held (λ l o. PartlyOf codec head (final lines l).0.events o)
 
-  -- these lines were run, and the run goes on with those that come after them, or it stops
-  abbrev pub LineGoes : {X : Type 0} → (DiaryFault → Bool) → List Numbered → List Numbered → ℕ → ℕ → Option (List ℕ) → Option (List ℕ) → Both S → Marks → Marks → Option (List ℕ) → Run S → Result X Stop → Type 0
-  LineGoes gives lines more m m' left left' b downs ups held r (Ok x) = (s : Run S) × (IsAt codec head b downs ups held s × Told2 left left' (λ l l'. onward m l lines r ≡ onward m' l' more s))
-  LineGoes gives lines more m m' left left' b downs ups held r (Err why) = Halts gives left held (λ l. onward m l lines r) why
+  -- this line was run, and the run goes on with those that come after it, whatever they are, or it stops
+  abbrev pub LineGoes : {X : Type 0} → (DiaryFault → Bool) → Numbered → ℕ → ℕ → Option (List ℕ) → Option (List ℕ) → Both S → Marks → Marks → Option (List ℕ) → Run S → Result X Stop → Type 0
+  LineGoes gives numbered m m' left left' b downs ups held r (Ok x) =
+      (s : Run S) × (IsAt codec head b downs ups held s × Told2 left left' (λ l l'. (more : List Numbered) → onward m l (numbered ∷ more) r ≡ onward m' l' more s))
+  LineGoes gives numbered m m' left left' b downs ups held r (Err why) = (more : List Numbered) → Halts gives left held (λ ls l. onward m l ls r) (numbered ∷ more) why
+
+  -- all these lines were run, or the run stops
+  abbrev pub LinesGo : (DiaryFault → Bool) → List Numbered → ℕ → ℕ → Option (List ℕ) → Option (List ℕ) → Both S → Marks → Marks → Option (List ℕ) → Run S → Result (Unit {0}) Stop → Type 0
+  LinesGo gives lines m m' left left' b downs ups held r (Ok x) = (s : Run S) × (IsAt codec head b downs ups held s × Told2 left left' (λ l l'. onward m l lines r ≡ onward m' l' [] s))
+  LinesGo gives lines m m' left left' b downs ups held r (Err why) = Halts gives left held (λ ls l. onward m l ls r) lines why

@@ -7,14 +7,14 @@ use Rattle.sal_y4m.specs.declared.head.Head.{Head}
 use Rattle.sal_y4m.specs.declared.fault.Why.TheVariants.{Form}
 use Rattle.sal_y4m.specs.Grammar.{header_at, head_text, picture_text}
 use Rattle.sal_script.specs.declared.line.ScriptLine.{ScriptLine}
-use Rattle.sal_script.specs.declared.line.ScriptLine.TheVariants.{Next, NextLate, Down, Up, DownAll, UpAll, Wait, Rest}
+use Rattle.sal_script.specs.declared.line.ScriptLine.TheVariants.{Next, NextLate, Rest}
 use Rattle.sal_script.specs.Numbered.{Numbered}
 use Rattle.sal_script.specs.Script.{script_of}
 use Rattle.sal_sender.specs.OneThread.{Session}
 use Rattle.sal_receiver.specs.Past.{shown}
 use Rattle.sal_world.specs.World.{World}
 use Rattle.sal_world.specs.Script.{Run, begun, line}
-use Rattle.sal_run.specs.Clip.{End, Done, BadInput, BadScript, Clip, clip_at}
+use Rattle.sal_run.specs.Clip.{End, Done, BadInput, BadScript, clip_at}
 
 -- the session of a run
 abbrev pub session_of : Head → Session

@@ -1,5 +1,5 @@
 -- Which numbers events named.
-use Rattle.std.specs.Prelude.{◌≡◌, ℕ, ◌≤◌, Bool, true, false, ◌||◌, List, slice_index_or, ◌==◌}
+use Rattle.std.specs.Prelude.{◌≡◌, ℕ, ◌≤◌, Bool, true, ◌||◌, List, ◌==◌}
 use Rattle.std.specs.List.{list_any}
 use Rattle.sal_world.specs.World.{Event}
 use Rattle.sal_run.specs.Marks.{Marks, is_marked}

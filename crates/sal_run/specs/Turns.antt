@@ -9,7 +9,7 @@ use Rattle.sal_sender.specs.OneThread.{Session}
 use Rattle.sal_sender.specs.Choosing.{is_fine, first_of}
 use Rattle.sal_sender.specs.Answers.{waiting_jobs}
 use Rattle.sal_receiver.specs.Ready.{take_answer as ready_answer}
-use Rattle.sal_world.specs.World.{Event, Take, Reports, Ready, Decodes}
+use Rattle.sal_world.specs.World.{Take, Reports, Ready, Decodes}
 use Rattle.sal_world.specs.Script.{Run, with_event, next_picture, down_all, up_all, wait}
 
 abbrev pub is_fine_role : JobRole → Bool
@@ -49,6 +49,10 @@ module _ {S : Type 0} (codec : Coding S) (session : Session) where
   abbrev pub one_frame : Run S → Run S
   one_frame r = with_frame r (ready_answer codec r.world.receiver)
 
-  -- a picture is sent, all that comes of it is delivered, and so much time passes
+  -- a picture is sent, and all that comes of it is delivered
+  abbrev pub exchange : Picture → Run S → Run S
+  exchange picture r = up_all codec session (down_all codec session (next_picture codec session (is_late false) picture r))
+
+  -- after that so much time passes
   abbrev pub one_turn : ℕ → Picture → Run S → Run S
-  one_turn time picture r = wait codec session time (up_all codec session (down_all codec session (next_picture codec session (is_late false) picture r)))
+  one_turn time picture r = wait codec session time (exchange picture r)

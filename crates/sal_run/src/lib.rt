@@ -13,6 +13,8 @@ mod run;
 mod script;
 mod stage;
 mod stop;
+#[cfg(test)]
+mod tests;
 
 pub use diary::{CallKind, Diary, DiaryFault, Entry, Line, NoDiary, ReportSize};
 pub use end::{RunEnd, Which};

@@ -10,7 +10,7 @@ ghost use Rattle.sal_world.specs.Script.{Run, next_picture, down, up, down_all, 
 ghost use Rattle.sal_run.specs.Loop.{session_of};
 ghost use Rattle.sal_run.specs.Named.{IsMarked};
 ghost use Rattle.sal_run.specs.Running.{IsAt, Comes};
-ghost use Rattle.sal_run.specs.Turns.{is_late, one_turn};
+ghost use Rattle.sal_run.specs.Turns.{is_late, exchange};
 ghost use Rattle.sal_run.specs.Walk.{unless_marked};
 
 use crate::diary::{Diary, DiaryFault};
@@ -192,18 +192,17 @@ impl<C: Codec> Play<C> {
         Ok(())
     }
 
-    /// A picture is started, encoded and chosen, all that comes of it is delivered, and so much time passes.
-    pub(crate) fn turn<K: Sink, J: Diary>(
+    /// A picture is started, encoded and chosen, and all that comes of it is delivered.
+    pub(crate) fn exchange<K: Sink, J: Diary>(
         &mut self,
         number: u32,
-        time: u64,
         picture: Picture,
         out: &mut Writer<K>,
         journal: &mut J,
     ) -> Result<(), Stop>
         requires open { out.old.failed ≡ false }
         requires runs { (head : HeadData) × ((r : Run C.State) × (IsAt C.coding head self.old.stage.world self.old.downs self.old.ups (K.held out.old.sink) r × HasSize (session_of head) picture)) }
-        ensures comes { (head : HeadData) (r : Run C.State) → IsAt C.coding head self.old.stage.world self.old.downs self.old.ups (K.held out.old.sink) r → HasSize (session_of head) picture → Comes C.coding head J.gives self.new.stage.world self.new.downs self.new.ups (K.held out.new.sink) (one_turn C.coding (session_of head) time picture r) result }
+        ensures comes { (head : HeadData) (r : Run C.State) → IsAt C.coding head self.old.stage.world self.old.downs self.old.ups (K.held out.old.sink) r → HasSize (session_of head) picture → Comes C.coding head J.gives self.new.stage.world self.new.downs self.new.ups (K.held out.new.sink) (exchange C.coding (session_of head) picture r) result }
         ensures open { OnOk result (out.new.failed ≡ false) }
         ensures out_cause { HasCause (Err Stop.Out) (K.faults out.old.sink) (K.faults out.new.sink) result }
         ensures journal_cause { HasCause (Err (Stop.Diary DiaryFault.Failed)) (J.faults journal.old) (J.faults journal.new) result }
@@ -212,7 +211,6 @@ impl<C: Codec> Play<C> {
     {
         self.next(number, false, picture, journal)?;
         self.down_all(out, journal)?;
-        self.up_all(journal)?;
-        self.wait(time, journal)
+        self.up_all(journal)
     }
 }

@@ -3,12 +3,11 @@
 ghost use Rattle.std.specs.Prelude.{◌≡◌, ◌≢◌, ◌≤◌, ◌*◌, ◌/◌, ◌∷◌, [], is_some, false, ℕ, List, Option, Some, None, OnOk, Ok, Err};
 ghost use Rattle.sal_io.specs.Calls.{HasCause};
 ghost use Rattle.sal_y4m.specs.Grammar.{IsNarrow};
-ghost use Rattle.sal_script.specs.Numbered.{Numbered};
 ghost use Rattle.sal_script.specs.declared.line.ScriptLine.TheVariants.{Rest};
 ghost use Rattle.sal_y4m.specs.declared.head.Head.{Head as HeadData};
 ghost use Rattle.sal_world.specs.Script.{Run, is_number};
 ghost use Rattle.sal_run.specs.Running.{IsAt};
-ghost use Rattle.sal_run.specs.Input.{LineGoes, next_said};
+ghost use Rattle.sal_run.specs.Input.{LineGoes, LinesGo, next_said};
 
 use crate::diary::{Diary, DiaryFault};
 use crate::input::{Feed, take};
@@ -31,7 +30,7 @@ fn next<C: Codec, S: Source, J: Diary>(
     requires fresh { pictures.old.kept ≡ None }
     requires narrow { IsNarrow pictures.old.head }
     requires runs { (r : Run C.State) × ((held : Option (List ℕ)) × IsAt C.coding pictures.old.head play.old.stage.world play.old.downs play.old.ups held r) }
-    ensures goes { (more : List Numbered) (r : Run C.State) (held : Option (List ℕ)) → IsAt C.coding pictures.old.head play.old.stage.world play.old.downs play.old.ups held r → LineGoes C.coding pictures.old.head J.gives ((number, next_said late) ∷ more) more feed.old.room feed.new.room (S.left pictures.old.source) (S.left pictures.new.source) play.new.stage.world play.new.downs play.new.ups held r result }
+    ensures goes { (r : Run C.State) (held : Option (List ℕ)) → IsAt C.coding pictures.old.head play.old.stage.world play.old.downs play.old.ups held r → LineGoes C.coding pictures.old.head J.gives (number, next_said late) feed.old.room feed.new.room (S.left pictures.old.source) (S.left pictures.new.source) play.new.stage.world play.new.downs play.new.ups held r result }
     ensures cause { HasCause (Err Stop.ReadFault) (S.faults pictures.old.source) (S.faults pictures.new.source) result }
     ensures journal_cause { HasCause (Err (Stop.Diary DiaryFault.Failed)) (J.faults journal.old) (J.faults journal.new) result }
     ensures never { result ≢ Err Stop.Out }
@@ -65,7 +64,7 @@ fn down<C: Codec, K: Sink, J: Diary>(
 ) -> Result<(), Stop>
     requires open { out.old.failed ≡ false }
     requires runs { (head : HeadData) × ((r : Run C.State) × IsAt C.coding head play.old.stage.world play.old.downs play.old.ups (K.held out.old.sink) r) }
-    ensures goes { (head : HeadData) (more : List Numbered) (m : ℕ) (left : Option (List ℕ)) (r : Run C.State) → IsAt C.coding head play.old.stage.world play.old.downs play.old.ups (K.held out.old.sink) r → LineGoes C.coding head J.gives ((number, ScriptLine.Down which) ∷ more) more m m left left play.new.stage.world play.new.downs play.new.ups (K.held out.new.sink) r result }
+    ensures goes { (head : HeadData) (m : ℕ) (left : Option (List ℕ)) (r : Run C.State) → IsAt C.coding head play.old.stage.world play.old.downs play.old.ups (K.held out.old.sink) r → LineGoes C.coding head J.gives (number, ScriptLine.Down which) m m left left play.new.stage.world play.new.downs play.new.ups (K.held out.new.sink) r result }
     ensures open { OnOk result (out.new.failed ≡ false) }
     ensures out_cause { HasCause (Err Stop.Out) (K.faults out.old.sink) (K.faults out.new.sink) result }
     ensures journal_cause { HasCause (Err (Stop.Diary DiaryFault.Failed)) (J.faults journal.old) (J.faults journal.new) result }
@@ -88,7 +87,7 @@ fn up<C: Codec, J: Diary>(
     journal: &mut J,
 ) -> Result<(), Stop>
     requires runs { (head : HeadData) × ((r : Run C.State) × ((held : Option (List ℕ)) × IsAt C.coding head play.old.stage.world play.old.downs play.old.ups held r)) }
-    ensures goes { (head : HeadData) (more : List Numbered) (m : ℕ) (left : Option (List ℕ)) (r : Run C.State) (held : Option (List ℕ)) → IsAt C.coding head play.old.stage.world play.old.downs play.old.ups held r → LineGoes C.coding head J.gives ((number, ScriptLine.Up which) ∷ more) more m m left left play.new.stage.world play.new.downs play.new.ups held r result }
+    ensures goes { (head : HeadData) (m : ℕ) (left : Option (List ℕ)) (r : Run C.State) (held : Option (List ℕ)) → IsAt C.coding head play.old.stage.world play.old.downs play.old.ups held r → LineGoes C.coding head J.gives (number, ScriptLine.Up which) m m left left play.new.stage.world play.new.downs play.new.ups held r result }
     ensures journal_cause { HasCause (Err (Stop.Diary DiaryFault.Failed)) (J.faults journal.old) (J.faults journal.new) result }
     ensures never { result ≢ Err Stop.Out }
     ensures unread { result ≢ Err Stop.ReadFault }
@@ -120,7 +119,7 @@ fn rest<C: Codec, S: Source, K: Sink, J: Diary>(
     requires narrow { IsNarrow pictures.old.head }
     requires open { out.old.failed ≡ false }
     requires runs { (r : Run C.State) × IsAt C.coding pictures.old.head play.old.stage.world play.old.downs play.old.ups (K.held out.old.sink) r }
-    ensures goes { (n : ℕ) (more : List Numbered) (r : Run C.State) → IsAt C.coding pictures.old.head play.old.stage.world play.old.downs play.old.ups (K.held out.old.sink) r → LineGoes C.coding pictures.old.head J.gives ((n, Rest) ∷ more) more feed.old.room feed.new.room (S.left pictures.old.source) (S.left pictures.new.source) play.new.stage.world play.new.downs play.new.ups (K.held out.new.sink) r result }
+    ensures goes { (n : ℕ) (r : Run C.State) → IsAt C.coding pictures.old.head play.old.stage.world play.old.downs play.old.ups (K.held out.old.sink) r → LineGoes C.coding pictures.old.head J.gives (n, Rest) feed.old.room feed.new.room (S.left pictures.old.source) (S.left pictures.new.source) play.new.stage.world play.new.downs play.new.ups (K.held out.new.sink) r result }
     ensures cause { HasCause (Err Stop.ReadFault) (S.faults pictures.old.source) (S.faults pictures.new.source) result }
     ensures fresh { OnOk result (pictures.new.kept ≡ None) }
     ensures head { pictures.new.head ≡ pictures.old.head }
@@ -136,7 +135,8 @@ fn rest<C: Codec, S: Source, K: Sink, J: Diary>(
     let alloc = play.stage.alloc;
     let time = period(pictures.head());
     while let Some(picture) = take(alloc, pictures, feed)? {
-        play.turn(feed.taken, time, picture, out, journal)?;
+        play.exchange(feed.taken, picture, out, journal)?;
+        play.wait(time, journal)?;
     }
     Ok(())
 }
@@ -155,7 +155,7 @@ fn line<C: Codec, S: Source, K: Sink, J: Diary>(
     requires narrow { IsNarrow pictures.old.head }
     requires open { out.old.failed ≡ false }
     requires runs { (r : Run C.State) × IsAt C.coding pictures.old.head play.old.stage.world play.old.downs play.old.ups (K.held out.old.sink) r }
-    ensures goes { (more : List Numbered) (r : Run C.State) → IsAt C.coding pictures.old.head play.old.stage.world play.old.downs play.old.ups (K.held out.old.sink) r → LineGoes C.coding pictures.old.head J.gives ((number, said) ∷ more) more feed.old.room feed.new.room (S.left pictures.old.source) (S.left pictures.new.source) play.new.stage.world play.new.downs play.new.ups (K.held out.new.sink) r result }
+    ensures goes { (r : Run C.State) → IsAt C.coding pictures.old.head play.old.stage.world play.old.downs play.old.ups (K.held out.old.sink) r → LineGoes C.coding pictures.old.head J.gives (number, said) feed.old.room feed.new.room (S.left pictures.old.source) (S.left pictures.new.source) play.new.stage.world play.new.downs play.new.ups (K.held out.new.sink) r result }
     ensures cause { HasCause (Err Stop.ReadFault) (S.faults pictures.old.source) (S.faults pictures.new.source) result }
     ensures fresh { OnOk result (pictures.new.kept ≡ None) }
     ensures head { pictures.new.head ≡ pictures.old.head }
@@ -193,7 +193,7 @@ pub(crate) fn lines<C: Codec, S: Source, K: Sink, J: Diary>(
     requires narrow { IsNarrow pictures.old.head }
     requires open { out.old.failed ≡ false }
     requires runs { (r : Run C.State) × IsAt C.coding pictures.old.head play.old.stage.world play.old.downs play.old.ups (K.held out.old.sink) r }
-    ensures goes { (r : Run C.State) → IsAt C.coding pictures.old.head play.old.stage.world play.old.downs play.old.ups (K.held out.old.sink) r → LineGoes C.coding pictures.old.head J.gives script.now [] feed.old.room feed.new.room (S.left pictures.old.source) (S.left pictures.new.source) play.new.stage.world play.new.downs play.new.ups (K.held out.new.sink) r result }
+    ensures goes { (r : Run C.State) → IsAt C.coding pictures.old.head play.old.stage.world play.old.downs play.old.ups (K.held out.old.sink) r → LinesGo C.coding pictures.old.head J.gives script.now feed.old.room feed.new.room (S.left pictures.old.source) (S.left pictures.new.source) play.new.stage.world play.new.downs play.new.ups (K.held out.new.sink) r result }
     ensures cause { HasCause (Err Stop.ReadFault) (S.faults pictures.old.source) (S.faults pictures.new.source) result }
     ensures fresh { OnOk result (pictures.new.kept ≡ None) }
     ensures head { pictures.new.head ≡ pictures.old.head }

@@ -1,4 +1,4 @@
-use Rattle.std.proofs.Common.{◌≡◌, [], ◌∷◌, true, not, refl, sym, ap, ◌∙◌}
+use Rattle.std.proofs.Common.{[], ◌∷◌, true, not, refl, sym, ap, ◌∙◌}
 use Rattle.sal_world.specs.World.{Decodes}
 use Rattle.sal_run.specs.Loop.{session_of}
 use Rattle.sal_run.specs.declared.stop.Stop.TheVariants.{Memory}

@@ -1,4 +1,3 @@
-use Rattle.std.proofs.Common.{◌≡◌, sym, ◌∙◌}
 use Rattle.sal_run.specs.Loop.{session_of}
 use Rattle.sal_run.proofs.Steps.{step_exit, note_exit, running_next}
 use Rattle.sal_run.proofs.events.ready.Goals as goal

@@ -1,4 +1,4 @@
-use Rattle.std.proofs.Common.{◌≡◌, [], ◌∷◌, true, refl, sym, subst}
+use Rattle.std.proofs.Common.{[], ◌∷◌, true, refl, sym, subst}
 use Rattle.sal_world.specs.World.{Reports}
 use Rattle.sal_world.specs.Stands.{Stands}
 use Rattle.sal_run.specs.Loop.{session_of}

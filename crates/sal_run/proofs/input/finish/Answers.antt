@@ -1,6 +1,6 @@
-use Rattle.std.proofs.Common.{◌≡◌, Ok, Err, rules, arith, sym, subst}
+use Rattle.std.proofs.Common.{Ok, Err, rules, arith, sym, subst}
 use Rattle.sal_base.specs.Picture.{AreSides}
-use Rattle.sal_run.specs.Input.{TakeGives, FinishGives}
+use Rattle.sal_run.specs.Input.{TakeGives}
 use Rattle.sal_run.proofs.Onward.{some_fact}
 use Rattle.sal_run.proofs.Whole.{fault_first, fault_next, fault_stops, fault_none, finish_exit}
 use Rattle.sal_run.proofs.input.finish.Goals as goal

@@ -1,4 +1,4 @@
-use Rattle.std.proofs.Common.{◌≡◌, [], ap, ◌∙◌}
+use Rattle.std.proofs.Common.{[], ap, ◌∙◌}
 use Rattle.sal_world.specs.Script.{begun}
 use Rattle.sal_run.specs.Clip.{most}
 use Rattle.sal_run.proofs.Whole.{lines_gives, finish_gives, note_gives, on_ok}

@@ -1,4 +1,4 @@
-use Rattle.std.proofs.Common.{◌≡◌, subst}
+use Rattle.std.proofs.Common.{subst}
 use Rattle.sal_world.specs.Script.{begun}
 use Rattle.std.proofs.Common.{[]}
 use Rattle.sal_run.specs.Ends.{RunGives}

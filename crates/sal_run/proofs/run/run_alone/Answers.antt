@@ -1,4 +1,4 @@
-use Rattle.std.proofs.Common.{◌≡◌, sym, subst}
+use Rattle.std.proofs.Common.{sym, subst}
 use Rattle.sal_io.specs.Calls.{HasCause}
 use Rattle.sal_run.specs.declared.end.RunEnd.TheVariants.{ReadFault, WriteFault}
 use Rattle.sal_run.specs.declared.end.Which.TheVariants.{Out, Journal}

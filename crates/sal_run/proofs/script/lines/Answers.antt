@@ -1,8 +1,7 @@
-use Rattle.std.proofs.Common.{◌≡◌, [], rules, sym, subst}
+use Rattle.std.proofs.Common.{rules, sym, subst}
 use Rattle.sal_y4m.specs.Grammar.{IsNarrow}
 use Rattle.sal_run.specs.Running.{IsAt}
-use Rattle.sal_run.proofs.Onward.{line_exit}
-use Rattle.sal_run.proofs.Whole.{lines_first, line_err, line_ok, lines_last, drop_at, drop_end}
+use Rattle.sal_run.proofs.Whole.{lines_exit, lines_first, line_err, line_ok, lines_last, drop_at, drop_end}
 use Rattle.sal_run.proofs.script.lines.Goals as goal
 
 pub loop-numbered-init : goal.loop-numbered-init
@@ -31,7 +30,7 @@ line-requires-clause-narrow g c κs within = subst (λ h. IsNarrow h) (sym c.loo
 
 pub returns-in_err-line-clause-goes : goal.returns-in_err-line-clause-goes
 returns-in_err-line-clause-goes g c r is =
-    line_exit g.C.Codec.coding c.args.pictures.now.head g.J.Diary.gives c.args.script.now [] c.args.feed.now.room c.line.new.feed.room _ _ _ _ _ _ r c.from_residual.result _ c.from_residual.ensures.1
+    lines_exit g.C.Codec.coding c.args.pictures.now.head g.J.Diary.gives c.args.script.now c.args.feed.now.room c.line.new.feed.room _ _ _ _ _ _ r c.from_residual.result _ c.from_residual.ensures.1
     (line_err g.C.Codec.coding c.args.pictures.now.head g.J.Diary.gives c.loop-numbered.pictures.head _ _ _ _ _ _ c.args.script.now _ r _ _ _ _ _ _ _ _ _ c.line.result _ (c.loop-numbered.invariant.left r is) c.loop-numbered.invariant.head c.in_err-line.was c.loop-numbered.invariant.tells (drop_at c.args.script.now _ _ c.loop-numbered-test.true) c.line.ensures.goes)
 
 pub loop-numbered-preserved : goal.loop-numbered-preserved

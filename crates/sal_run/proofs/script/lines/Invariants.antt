@@ -1,4 +1,4 @@
-use Rattle.std.proofs.Common.{◌≡◌, ◌≤◌, ℕ, List, Option, None, is_some, false}
+use Rattle.std.proofs.Common.{◌≡◌, ◌≤◌, None, is_some, false}
 use Rattle.sal_world.specs.Script.{Run}
 use Rattle.sal_run.specs.Running.{IsAt}
 use Rattle.sal_run.proofs.Whole.{LinesLeft}

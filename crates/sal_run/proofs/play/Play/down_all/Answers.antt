@@ -1,4 +1,4 @@
-use Rattle.std.proofs.Common.{◌≡◌, rules, arith, sym, ◌∙◌, ap, length, subst}
+use Rattle.std.proofs.Common.{rules, sym, ◌∙◌, ap, length, subst}
 use Rattle.sal_world.specs.World.{sent}
 use Rattle.sal_world.specs.Script.{downs_in, down, down_all}
 use Rattle.sal_run.specs.Walk.{Walk}

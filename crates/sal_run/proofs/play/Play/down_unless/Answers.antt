@@ -1,4 +1,4 @@
-use Rattle.std.proofs.Common.{◌≡◌, sym, ap, ◌∙◌}
+use Rattle.std.proofs.Common.{sym, ap, ◌∙◌}
 use Rattle.sal_world.specs.Script.{down}
 use Rattle.sal_run.specs.Loop.{session_of}
 use Rattle.sal_run.specs.Marks.{is_marked}

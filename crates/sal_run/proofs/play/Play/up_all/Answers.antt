@@ -1,5 +1,4 @@
-use Rattle.std.proofs.Common.{◌≡◌, rules, arith, sym, ◌∙◌, ap, length, subst}
-use Rattle.sal_world.specs.World.{acks}
+use Rattle.std.proofs.Common.{rules, sym, ◌∙◌, subst}
 use Rattle.sal_world.specs.Script.{ups_in, up, up_all}
 use Rattle.sal_run.specs.Walk.{Walk}
 use Rattle.sal_run.specs.Running.{IsAt}

@@ -1,4 +1,4 @@
-use Rattle.std.proofs.Common.{◌≡◌, ◌≤◌, ℕ, List, Option}
+use Rattle.std.proofs.Common.{◌≤◌, ℕ, List, Option}
 use Rattle.sal_y4m.specs.declared.head.Head.{Head}
 use Rattle.sal_world.specs.Script.{Run, up, up_all}
 use Rattle.sal_run.specs.Loop.{session_of}

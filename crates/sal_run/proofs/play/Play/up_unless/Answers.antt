@@ -1,4 +1,4 @@
-use Rattle.std.proofs.Common.{◌≡◌, sym, ◌∙◌}
+use Rattle.std.proofs.Common.{sym, ◌∙◌}
 use Rattle.sal_world.specs.Script.{up}
 use Rattle.sal_run.specs.Loop.{session_of}
 use Rattle.sal_run.proofs.Walks.{unless_comes, already_comes, already_marked}

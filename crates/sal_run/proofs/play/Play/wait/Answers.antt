@@ -1,4 +1,4 @@
-use Rattle.std.proofs.Common.{◌≡◌, sym, ap, ◌∙◌}
+use Rattle.std.proofs.Common.{sym, ap, ◌∙◌}
 use Rattle.sal_run.proofs.Walks.{wait_comes, wait_moment}
 use Rattle.sal_run.proofs.play.Play.wait.Goals as goal
 

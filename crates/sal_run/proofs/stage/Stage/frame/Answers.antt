@@ -1,6 +1,6 @@
-use Rattle.std.proofs.Common.{◌≡◌, sym, ◌∙◌, subst, arith}
+use Rattle.std.proofs.Common.{sym, ◌∙◌, subst, arith}
 use Rattle.sal_run.specs.Running.{IsRunning}
-use Rattle.sal_run.proofs.Turns.{ready_exit, decoded_exit, decoded_runs, was_ready, frame_is, frame_some, frame_none, no_frame, no_out, never_stop}
+use Rattle.sal_run.proofs.Turns.{ready_exit, decoded_exit, decoded_runs, was_ready, frame_some, frame_none, no_frame, no_out, never_stop}
 use Rattle.sal_run.proofs.stage.Stage.frame.Goals as goal
 
 pub returns-in_err-frame-clause-goes : goal.returns-in_err-frame-clause-goes

@@ -1,4 +1,4 @@
-use Rattle.std.proofs.Common.{rules, arith}
+use Rattle.std.proofs.Common.{rules}
 use Rattle.sal_run.proofs.Turns.{frames_first, frames_next, frames_done, frames_last, frames_exit, last_exit, no_out, never_stop}
 use Rattle.sal_run.proofs.stage.Stage.frames.Goals as goal
 

@@ -1,4 +1,4 @@
-use Rattle.std.proofs.Common.{◌≡◌, sym, ◌∙◌}
+use Rattle.std.proofs.Common.{sym, ◌∙◌}
 use Rattle.sal_run.specs.Loop.{session_of}
 use Rattle.sal_run.proofs.Turns.{handed, take_exit, report_exit, job_goes}
 use Rattle.sal_run.proofs.stage.Stage.job.Goals as goal

@@ -1,5 +1,4 @@
-use Rattle.std.proofs.Common.{◌≡◌, ◌∷◌, sym, subst}
-use Rattle.std.specs.Arc.{arc_value}
+use Rattle.std.proofs.Common.{◌∷◌, sym, subst}
 use Rattle.sal_world.specs.World.{Next}
 use Rattle.sal_world.specs.Promises.{HasSize}
 use Rattle.sal_world.specs.Script.{with_event}
