@@ -23,6 +23,7 @@ use Rattle.sal_run.specs.Loop.{loop_end}
 use Rattle.sal_run.specs.Ends.{KeepsPromises}
 use Rattle.sal_app.specs.Stops.{IsNothing}
 use Rattle.sal_app.specs.Ends.{RunGives, AtEnd, Ends, UpToNextOrNot}
+use Rattle.sal_app.proofs.EmptyLemmas.{leaves_nothing}
 use Rattle.sal_app.specs.Top.{Files, Shut, Of, LoopAnswers, StatusOf, Unopened, IsLoop, Answers, IsComplete, IsQuiet, Promises, status_of, faults_of}
 
 four : {X : Type 0} (ws : List X) (a b c d : X) → 4 ≤ length ws → length ws < 5 → a ≡ get_or ws 0 a → b ≡ get_or ws 1 b → c ≡ get_or ws 2 c → d ≡ get_or ws 3 d → ws ≡ a ∷ b ∷ c ∷ d ∷ []
@@ -246,4 +247,6 @@ narrow_head : (i body : List ℕ) (head : Head) → header_at i ≡ Some (head, 
 narrow_head i body head header = subst (λ (found : Option (Head × List ℕ)). IfSome found (λ (x : Head × List ℕ). IsNarrow x.0)) header (header_narrow i)
 
 pub promised : (words : List (List ℕ)) (holds : List ℕ → Option (List ℕ)) → ((head : Head) (lines : List Numbered) (bytes : List ℕ) → IsNarrow head → KeepsPromises plain head lines bytes) → Promises words holds
-promised words holds law i s said head lines body header read = law head lines body (narrow_head i body head header)
+promised words holds law i s said head lines body header read =
+    let keeps = law head lines body (narrow_head i body head header) in
+    (keeps, leaves_nothing plain head lines body keeps)

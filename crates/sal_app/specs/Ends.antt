@@ -6,7 +6,8 @@ use Rattle.sal_y4m.specs.Grammar.{header_at}
 use Rattle.sal_script.specs.Numbered.{Numbered}
 use Rattle.sal_script.specs.Script.{script_of}
 use Rattle.sal_run.specs.Clip.{End, Done, BadInput, BadScript, TooMany, TooLong}
-use Rattle.sal_run.specs.Loop.{loop_end, loop_out}
+use Rattle.sal_world.specs.Promises.{Names, NothingIsLeft, AllIsServed}
+use Rattle.sal_run.specs.Loop.{clip_run, loop_end, loop_out}
 use Rattle.sal_run.specs.Ends.{Partly, UpToNext, Cut}
 use Rattle.sal_app.specs.declared.status.Stop.{Stop}
 use Rattle.sal_app.specs.declared.status.Stop.TheVariants as stop
@@ -54,3 +55,9 @@ module _ {S : Type 0} (codec : Coding S) where
 abbrev pub AtEnd : Result (Unit {0}) Stop → Option (List ℕ) → Type 0
 AtEnd (Ok x) left = IsNothing left
 AtEnd (Err why) left = Unit {0}
+
+-- the run of these lines leaves no frame that waits to be decoded or is out; where names differ, each frame that was ready was then
+-- shown, or a number at least as great was
+pub record LeavesNothing {S : Type 0} (codec : Coding S) (head : Head) (lines : List Numbered) (bytes : List ℕ) : Type 0 where
+  pub left : NothingIsLeft codec (clip_run codec head bytes lines).0.world.receiver
+  pub served : Names codec (clip_run codec head bytes lines).0.world → AllIsServed codec (clip_run codec head bytes lines).0.world.receiver

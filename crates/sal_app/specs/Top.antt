@@ -21,7 +21,7 @@ use Rattle.sal_run.specs.Clip.{End, Done, BadInput, BadScript, TooMany, TooLong}
 use Rattle.sal_run.specs.Loop.{loop_end}
 use Rattle.sal_run.specs.Ends.{KeepsPromises}
 use Rattle.sal_app.specs.Stops.{IsNothing}
-use Rattle.sal_app.specs.Ends.{Told, Ends, SoFarOrNot, UpToNextOrNot, CutOff}
+use Rattle.sal_app.specs.Ends.{Told, Ends, SoFarOrNot, UpToNextOrNot, CutOff, LeavesNothing}
 
 -- what is known of IN, SCRIPT and OUT as they were shut: what the sources had left, what the sink holds, and the counts
 -- of faults
@@ -138,8 +138,8 @@ IsComplete words holds before after faults faults' s =
     → (s ≡ status_of (loop_end plain i o)) ⊎ (s ≡ status.Memory)
 
 -- where the words are `loop` and three names and the shelf tells what it has under the first two: the run of these lines over
--- the pictures after this header keeps all promises of both ends, after any of its events
+-- the pictures after this header keeps all promises of both ends, after any of its events, and leaves nothing that is ready
 abbrev pub Promises : List (List ℕ) → (List ℕ → Option (List ℕ)) → Type 0
 Promises words holds =
     (i s : List ℕ) → IsLoop words (λ input script output. (holds input ≡ Some i) × (holds script ≡ Some s))
-    → (head : Head) (lines : List Numbered) (body : List ℕ) → header_at i ≡ Some (head, body) → script_of s ≡ Ok lines → KeepsPromises plain head lines body
+    → (head : Head) (lines : List Numbered) (body : List ℕ) → header_at i ≡ Some (head, body) → script_of s ≡ Ok lines → KeepsPromises plain head lines body × LeavesNothing plain head lines body
