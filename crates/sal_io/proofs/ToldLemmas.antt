@@ -1,12 +1,11 @@
 -- Readings of what is left, from what calls consumed.
-use Rattle.std.proofs.Common.{◌≡◌, ℕ, zero, suc, ◌+◌, ◌<◌, ◌≤◌, ◌≢◌, true, false, eqb, leb, List, [], ◌∷◌, ◌++◌, length, take, set, get_or, Option, Some, None, IfSome, refl, sym, ap, ◌∙◌, subst, arith, append_assoc, append-nil, take_at, drop_at, length-append}
+use Rattle.std.proofs.Common.{◌≡◌, ℕ, zero, suc, ◌+◌, ◌<◌, ◌≤◌, ◌≢◌, true, false, eqb, leb, List, [], ◌∷◌, ◌++◌, length, take, set, get_or, Option, Some, None, IfSome, refl, sym, ap, ◌∙◌, subst, arith, append_assoc, append-nil, take_at, drop_at, length-append, length-take-le}
 use Rattle.std.proofs.lemmas.Bool.{le-leb, lt-leb, eqb-true}
 use Rattle.std.proofs.lemmas.List.{take_more_set}
 use Rattle.std.proofs.lemmas.Option.{none-some, same_Some}
-use Rattle.std.specs.List.{AllByRecursion}
 use Rattle.std.specs.Io.KnownBytes.{Consumes}
-use Rattle.std.proofs.KnownBytes.{Consumes-trans}
-use Rattle.sal_io.specs.Told.{Reading, ReadsAs, Lacks, ◌>>=◌, block_at, line_within, Repeats, ToldRepeats, Front}
+use Rattle.std.proofs.KnownBytes.{Consumes-nil, Consumes-trans}
+use Rattle.sal_io.specs.Told.{Reading, ReadsAs, Lacks, TakesUpTo, ◌>>=◌, block_at, NoNewline, line_within, Repeats, ToldRepeats, Front}
 
 pub reads_then : {X Y : Type 0} (r : Reading X) (s : X × List ℕ → Option (Y × List ℕ)) (a b c : Option (List ℕ)) (x : X) (y : Y)
     → ReadsAs r a b x → ReadsAs (λ xs. s (x, xs)) b c y → ReadsAs (λ xs. r xs >>= s) a c y
@@ -25,6 +24,24 @@ pub lacks_first : {X Y : Type 0} (r : Reading X) (s : X × List ℕ → Option (
 lacks_first r s None p = tt
 lacks_first r s (Some xs) p = ap (λ o. o >>= s) p
 
+-- ---- fronts
+
+pub takes_none : (n : ℕ) (a : Option (List ℕ)) → TakesUpTo n a a
+takes_none n a = ([], omega arith, Consumes-nil a)
+
+pub takes_more : (m n : ℕ) (a b c : Option (List ℕ)) → TakesUpTo m a b → TakesUpTo n b c → TakesUpTo (m + n) a c
+takes_more m n a b c p q = (p.0 ++ q.0, omega (arith, length-append p.0 q.0, p.1, q.1), Consumes-trans a b c p.0 q.0 p.2 q.2)
+
+pub takes_within : (m n : ℕ) (a b : Option (List ℕ)) → m ≤ n → TakesUpTo m a b → TakesUpTo n a b
+takes_within m n a b le p = (p.0, omega (arith, p.1), p.2)
+
+-- a buffer's front after so many bytes
+pub takes_piece : (m n size : ℕ) (a b c : Option (List ℕ)) (before buf : List ℕ) → length before ≤ m → n ≤ length buf → length buf ≡ size
+    → Consumes a b before → Consumes b c (take n buf) → TakesUpTo (m + size) a c
+takes_piece m n size a b c before buf le fits is p q =
+    let long : length (take n buf) ≡ n = length-take-le n buf fits in
+    takes_more m size a b c (before, le, p) (take n buf, omega (arith, long, fits, is), q)
+
 -- ---- blocks
 
 pub block_read : (a b : Option (List ℕ)) (bs : List ℕ) (n : ℕ) → length bs ≡ n → Consumes a b bs → ReadsAs (block_at n) a b bs
@@ -41,9 +58,6 @@ block_lacks (Some xs) bs n short p =
     ap (block_at n) p ∙ rw few refl
 
 -- ---- lines
-
-abbrev pub NoNewline : List ℕ → Type 0
-NoNewline = AllByRecursion (λ b. b ≢ 10)
 
 not_ten : (b : ℕ) → b ≢ 10 → eqb b 10 ≡ false
 not_ten b h = elim (eqb b 10) as (λ t. eqb b 10 ≡ t → t ≡ false) [ true ↦ λ e. absurd (h (eqb-true b 10 e)) | false ↦ λ e. refl ] refl
@@ -99,6 +113,21 @@ pub none_more : (b : Option (List ℕ)) (one : List ℕ) (n : ℕ) → n < 1 →
 none_more None one n lt p = tt
 none_more (Some xs) one zero lt p = p
 none_more (Some xs) one (suc n) lt p = absurd (omega arith)
+
+-- a read of one byte that took none
+pub took_none : (a b c : Option (List ℕ)) (front one : List ℕ) (n : ℕ) → n < 1 → Consumes a b front → Consumes b c (take n one) → Consumes a c front
+took_none a b c front one zero lt p q = subst (Consumes a c) (append-nil front) (Consumes-trans a b c front [] p q)
+took_none a b c front one (suc n) lt p q = absurd (omega arith)
+
+-- the same where none were taken before
+pub none_at_start : (a b c : Option (List ℕ)) (line one : List ℕ) (i n : ℕ) → i ≡ 0 → n < 1 → Consumes a b (take i line) → Consumes b c (take n one) → Consumes a c []
+none_at_start a b c line one i n zero_is lt p q = subst (λ (m : ℕ). Consumes a c (take m line)) zero_is (took_none a b c (take i line) one n lt p q)
+
+-- the bytes before the end are all that was left
+pub was_all : (a b : Option (List ℕ)) (front : List ℕ) → Consumes a b front → IfSome b (λ xs. xs ≡ []) → IfSome a (λ xs. xs ≡ front)
+was_all None b front p end = tt
+was_all (Some xs) None front p end = absurd p
+was_all (Some xs) (Some ys) front p end = p ∙ ap (λ (l : List ℕ). front ++ l) end ∙ append-nil front
 
 pub stored : (line : List ℕ) (i x : ℕ) (P : List ℕ → Type 0) → i < length line → P (take i line ++ x ∷ []) → P (take (i + 1) (set line i x))
 stored line i x P lt p = subst P (sym (take_more_set line i x lt)) p

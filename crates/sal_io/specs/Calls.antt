@@ -1,6 +1,7 @@
 -- What the calls of sources, sinks and shelves do.
 use Rattle.std.specs.Prelude.{◌≡◌, ℕ, ◌+◌, ◌-◌, ◌^◌, ◌<◌, ◌≤◌, min, List, [], length, take, Option, IfSome, Result, OnErr}
 use Rattle.std.specs.Io.KnownBytes.{Consumes, Appends, Keeps, IsAtEnd}
+use Rattle.sal_io.specs.Told.{TakesUpTo}
 use Rattle.sal_io.specs.declared.answers.Took.{Took}
 use Rattle.sal_io.specs.declared.answers.Took.TheVariants as took
 use Rattle.sal_io.specs.declared.answers.Wrote.{Wrote}
@@ -59,16 +60,17 @@ pub record IsCreated (wanted : List ℕ) (name : List ℕ) (held : Option (List 
 abbrev pub FillGives : Option (List ℕ) → Option (List ℕ) → Filled → List ℕ → Type 0
 FillGives old new filled.Full buf = Consumes old new buf
 FillGives old new (filled.Short n) buf = (n < length buf) × IfSome old (λ xs. xs ≡ take n buf) × Consumes old new (take n buf)
-FillGives old new filled.Failed buf = (n : ℕ) × (n ≤ length buf) × Consumes old new (take n buf)
+FillGives old new filled.Failed buf = (n : ℕ) × (n < length buf) × Consumes old new (take n buf)
 
 -- what putting bytes does to the bytes that a sink holds
 abbrev pub PutGives : Option (List ℕ) → Option (List ℕ) → Put → List ℕ → Type 0
 PutGives old new puts.Done bytes = Appends old new bytes
 PutGives old new puts.Failed bytes = (n : ℕ) × (n ≤ length bytes) × Appends old new (take n bytes)
 
--- what reading all does to the bytes that are left: all of them, no more than the limit, or more than it
+-- what reading all does to the bytes that are left: all of them, no more than the limit, or more than it; where the
+-- source fails, no more than the limit were taken
 abbrev pub AllGives : Option (List ℕ) → Option (List ℕ) → Contents → ℕ → Type 0
 AllGives old new (contents.All bytes) most = (length bytes ≤ most) × IfSome old (λ xs. xs ≡ bytes) × Consumes old new bytes
 AllGives old new (contents.More bytes) most = (most < length bytes) × Consumes old new bytes
-AllGives old new contents.Failed most = Unit {0}
+AllGives old new contents.Failed most = TakesUpTo most old new
 AllGives old new contents.Memory most = Unit {0}

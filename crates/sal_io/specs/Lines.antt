@@ -1,8 +1,9 @@
 -- What reading a line does.
-use Rattle.std.specs.Prelude.{ℕ, ◌<◌, List, [], length, take, Option, IfSome, ◌≡◌}
+use Rattle.std.specs.Prelude.{ℕ, ◌<◌, ◌≤◌, List, [], length, take, Option, IfSome, ◌≡◌}
+use Rattle.std.specs.Io.KnownBytes.{Consumes}
 use Rattle.sal_io.specs.declared.line.Line.{Line}
 use Rattle.sal_io.specs.declared.line.Line.TheVariants.{Whole, End, Broken, Failed}
-use Rattle.sal_io.specs.Told.{ReadsAs, Lacks, line_within}
+use Rattle.sal_io.specs.Told.{ReadsAs, Lacks, NoNewline, line_within}
 
 -- a line shorter than the buffer was read; or no line is in front, and nothing at all at the end
 abbrev pub LineGives : Option (List ℕ) → Option (List ℕ) → Line → List ℕ → Type 0
@@ -10,3 +11,16 @@ LineGives old new (Whole n) buf = (n < length buf) × ReadsAs (line_within (leng
 LineGives old new Broken buf = Lacks (line_within (length buf)) old
 LineGives old new End buf = IfSome old (λ xs. xs ≡ []) × Lacks (line_within (length buf)) old
 LineGives old new Failed buf = Unit {0}
+
+-- so many bytes were taken and stored, none of them a newline
+pub record TakesPlain (old new : Option (List ℕ)) (buf : List ℕ) (count : ℕ) : Type 0 where
+  pub plain : NoNewline (take count buf)
+  pub taken : Consumes old new (take count buf)
+
+-- what is taken where no line is read: nothing at the end; a broken line fills the buffer or is all that was left; and
+-- where the source fails, the bytes before that
+abbrev pub LineTakes : Option (List ℕ) → Option (List ℕ) → Line → List ℕ → Type 0
+LineTakes old new (Whole n) buf = Unit {0}
+LineTakes old new End buf = Consumes old new []
+LineTakes old new Broken buf = (n : ℕ) × (n ≤ length buf) × TakesPlain old new buf n × (n < length buf → IfSome old (λ xs. xs ≡ take n buf))
+LineTakes old new Failed buf = (n : ℕ) × (n < length buf) × TakesPlain old new buf n

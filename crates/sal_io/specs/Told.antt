@@ -1,5 +1,7 @@
 -- What is read from the front of what is left, where that is told.
-use Rattle.std.specs.Prelude.{◌≡◌, ℕ, zero, suc, List, [], ◌∷◌, length, take, drop, Option, Some, None, IfSome, nat_le, ◌==◌, if◌then◌else◌}
+use Rattle.std.specs.Prelude.{◌≡◌, ◌≢◌, ◌≤◌, ℕ, zero, suc, List, [], ◌∷◌, length, take, drop, Option, Some, None, IfSome, nat_le, ◌==◌, if◌then◌else◌}
+use Rattle.std.specs.List.{AllByRecursion}
+use Rattle.std.specs.Io.KnownBytes.{Consumes}
 
 -- a reading gives a value and the bytes after it, or nothing
 abbrev pub Reading : Type 0 → Type 0
@@ -15,6 +17,10 @@ ReadsAs read (Some xs) (Some ys) x = read xs ≡ Some (x, ys)
 abbrev pub Lacks : {X : Type 0} → Reading X → Option (List ℕ) → Type 0
 Lacks read old = IfSome old (λ xs. read xs ≡ None)
 
+-- what is left now comes after a front of at most so many bytes
+abbrev pub TakesUpTo : ℕ → Option (List ℕ) → Option (List ℕ) → Type 0
+TakesUpTo most old new = (front : List ℕ) × (length front ≤ most) × Consumes old new front
+
 -- one reading after another
 infixl 10 ◌>>=◌
 abbrev pub ◌>>=◌ : {A B : Type 0} → Option A → (A → Option B) → Option B
@@ -29,6 +35,10 @@ block_at n bytes = if nat_le n (length bytes) then Some (take n bytes, drop n by
 abbrev pub with_front : ℕ → Option (List ℕ × List ℕ) → Option (List ℕ × List ℕ)
 with_front b None = None
 with_front b (Some x) = Some (b ∷ x.0, x.1)
+
+-- bytes without a newline
+abbrev pub NoNewline : List ℕ → Type 0
+NoNewline = AllByRecursion (λ b. b ≢ 10)
 
 -- a line without its newline, which is among the first n bytes
 unfoldable pub line_within : ℕ → Reading (List ℕ)

@@ -1,7 +1,8 @@
 //! All that a source has left, up to a limit.
 
-ghost use Rattle.std.specs.Prelude.{is_some, ◌≡◌, length, IfOk};
+ghost use Rattle.std.specs.Prelude.{is_some, ◌≡◌, ◌+◌, length, IfOk};
 ghost use Rattle.sal_io.specs.Calls.{HasCause, AllGives};
+ghost use Rattle.sal_io.specs.Told.{TakesUpTo};
 
 use crate::answers::Took;
 use crate::traits::Source;
@@ -31,9 +32,11 @@ fn room(alloc: Global, count: usize) -> Result<Vec<u8>, AllocError>
     vec![in alloc; 0u8; count].map_err(|_| AllocError)
 }
 
-/// Reads until the source ends, or until more than `most` bytes came.
+/// Reads until the source ends, or until more than `most` bytes came. Whatever it answers, it takes no more than one
+/// piece of 65,536 bytes past the limit.
 pub fn read_all<S: Source>(alloc: Global, source: &mut S, most: usize) -> Contents
     ensures bytes { AllGives (S.left source.old) (S.left source.new) result most }
+    ensures limit { TakesUpTo (most + 65536) (S.left source.old) (S.left source.new) }
     ensures cause { HasCause Contents.Failed (S.faults source.old) (S.faults source.new) result }
     ensures name { S.name source.new ≡ S.name source.old }
     ensures had { S.had source.new ≡ S.had source.old }

@@ -2,7 +2,7 @@
 
 ghost use Rattle.std.specs.Prelude.{is_some, ◌≡◌, ◌≢◌, ◌<◌, [], length, IfSome};
 ghost use Rattle.sal_io.specs.Calls.{HasCause};
-ghost use Rattle.sal_io.specs.Lines.{LineGives};
+ghost use Rattle.sal_io.specs.Lines.{LineGives, LineTakes};
 
 use crate::traits::Source;
 use crate::whole::{Filled, fill};
@@ -23,6 +23,7 @@ pub enum Line {
 /// Reads a line, whose newline is taken and not stored.
 pub fn read_line<S: Source>(source: &mut S, line: &mut [u8]) -> Line
     ensures told { LineGives (S.left source.old) (S.left source.new) result line.new }
+    ensures taken { LineTakes (S.left source.old) (S.left source.new) result line.new }
     ensures some { result ≡ Line.Broken → 0 < length line.new → IfSome (S.left source.old) (λ xs. xs ≢ []) }
     ensures cause { HasCause Line.Failed (S.faults source.old) (S.faults source.new) result }
     ensures name { S.name source.new ≡ S.name source.old }

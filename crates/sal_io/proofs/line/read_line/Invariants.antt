@@ -1,7 +1,7 @@
 use Rattle.std.specs.Prelude.{is_some}
 use Rattle.std.proofs.Common.{◌≡◌, ◌≤◌, take}
 use Rattle.std.specs.Io.KnownBytes.{Consumes}
-use Rattle.sal_io.proofs.ToldLemmas.{NoNewline}
+use Rattle.sal_io.specs.Told.{NoNewline}
 use Rattle.sal_io.proofs.line.read_line.Given as goal
 
 abbrev pub invariant-loop-i : goal.invariant-loop-i
