@@ -14,6 +14,16 @@ abbrev pub bytes_under : List MemFile → List ℕ → Option (List ℕ)
 bytes_under [] name = None
 bytes_under (file ∷ files) name = if bytes_eq file.name name then Some file.bytes else bytes_under files name
 
+-- the calls that are to fail of what is opened under that name
+abbrev pub failing_under : List MemFile → List ℕ → Option (List ℕ)
+failing_under [] name = None
+failing_under (file ∷ files) name = if bytes_eq file.name name then Some file.failing.items else failing_under files name
+
+-- none of them where no file has the name
+abbrev pub or_none : Option (List ℕ) → List ℕ
+or_none None = []
+or_none (Some numbers) = numbers
+
 -- what is known of an object in memory that was shut
 abbrev pub past_of : Shut MemSource MemSink → Past
 past_of (Source s) = In s.name (Some s.bytes) (Some (drop s.at s.bytes)) s.faults

@@ -1,10 +1,11 @@
 //! A shelf in memory.
 
-ghost use Rattle.std.specs.Prelude.{◌≡◌, [], map, IfOk};
-ghost use Rattle.sal_io.specs.Calls.{IsRaised};
+ghost use Rattle.std.specs.Prelude.{◌≡◌, ◌+◌, ◌||◌, true, [], map, drop, Some, is_none, IfOk, OnOk, OnErr, Err};
+ghost use Rattle.sal_io.specs.Failing.{next_call, is_to_fail, faults_after, shelf_failed};
+ghost use Rattle.sal_io.specs.Calls.{IsRaised, HasCause, IsOpened, IsCreated};
 ghost use Rattle.std.specs.Bool.{OnTrue, OnFalse};
 ghost use Rattle.std.specs.Option.{option_map};
-ghost use Rattle.sal_io.specs.Memory.{bytes_under, past_of};
+ghost use Rattle.sal_io.specs.Memory.{bytes_under, failing_under, or_none, past_of};
 
 use crate::answers::ShelfFault;
 use crate::ledger::{Ledger, Shut};
@@ -26,7 +27,8 @@ pub struct MemShelf {
 }
 
 fn find<'a>(files: &'a [MemFile], name: &[u8]) -> Option<&'a MemFile>
-    ensures { option_map (λ f. f.now.bytes) result ≡ bytes_under files.now name.now }
+    ensures bytes { option_map (λ f. f.now.bytes) result ≡ bytes_under files.now name.now }
+    ensures failing { option_map (λ f. f.now.failing.items) result ≡ failing_under files.now name.now }
 {
     for file in files {
         if file.name.as_slice() == name {
@@ -72,6 +74,10 @@ impl MemShelf {
     fn fails(&mut self) -> bool
         ensures files { self.new.files ≡ self.old.files }
         ensures ledger { self.new.ledger ≡ self.old.ledger }
+        ensures listed { result ≡ is_to_fail self.old.failing.items (next_call self.old.calls) }
+        ensures calls { self.new.calls ≡ next_call self.old.calls }
+        ensures failing { self.new.failing ≡ self.old.failing }
+        ensures faults { self.new.faults ≡ faults_after result self.old.faults }
         ensures quiet { OnFalse result (self.new.faults ≡ self.old.faults) }
         ensures rose { OnTrue result (IsRaised self.old.faults self.new.faults) }
     {
@@ -86,6 +92,9 @@ impl MemShelf {
     fn fail(&mut self)
         ensures files { self.new.files ≡ self.old.files }
         ensures ledger { self.new.ledger ≡ self.old.ledger }
+        ensures calls { self.new.calls ≡ self.old.calls }
+        ensures failing { self.new.failing ≡ self.old.failing }
+        ensures faults { self.new.faults ≡ faults_after true self.old.faults }
         ensures rose { IsRaised self.old.faults self.new.faults }
     {
         self.faults = self.faults.saturating_add(1);
@@ -109,7 +118,20 @@ impl Shelf for MemShelf {
         self.faults
     }
 
-    fn open(&mut self, alloc: Global, name: &str) -> Result<MemSource, ShelfFault> {
+    fn open(&mut self, alloc: Global, name: &str) -> Result<MemSource, ShelfFault>
+        ensures opened { IfOk result (λ s. IsOpened name.now (bytes_under self.old.files.items name.now) s.name (Some s.bytes) (Some (drop s.at s.bytes)) s.faults) }
+        ensures fresh { IfOk result (λ s. s.calls ≡ 0) }
+        ensures given { IfOk result (λ s. failing_under self.old.files.items name.now ≡ Some s.failing.items) }
+        ensures fails { shelf_failed result ≡ (is_to_fail self.old.failing.items (next_call self.old.calls) || is_none (bytes_under self.old.files.items name.now)) }
+        ensures calls { self.new.calls ≡ next_call self.old.calls }
+        ensures failing { self.new.failing ≡ self.old.failing }
+        ensures faults { self.new.faults ≡ faults_after (shelf_failed result) self.old.faults }
+        ensures cause { HasCause (Err ShelfFault.Failed) self.old.faults self.new.faults result }
+        ensures spare { OnOk result (self.new.ledger.spare ≡ self.old.ledger.spare + 1) }
+        ensures kept { OnErr result (self.new.ledger.spare ≡ self.old.ledger.spare) }
+        ensures pasts { map past_of self.new.ledger.shut.items ≡ map past_of self.old.ledger.shut.items }
+        ensures holds { bytes_under self.new.files.items ≡ bytes_under self.old.files.items }
+    {
         if self.fails() {
             return Err(ShelfFault::Failed);
         }
@@ -126,7 +148,20 @@ impl Shelf for MemShelf {
         Ok(MemSource::new(name, bytes, failing))
     }
 
-    fn create(&mut self, alloc: Global, name: &str) -> Result<MemSink, ShelfFault> {
+    fn create(&mut self, alloc: Global, name: &str) -> Result<MemSink, ShelfFault>
+        ensures created { IfOk result (λ s. IsCreated name.now s.name (Some s.bytes) s.faults) }
+        ensures fresh { IfOk result (λ s. s.calls ≡ 0) }
+        ensures given { IfOk result (λ s. s.failing.items ≡ or_none (failing_under self.old.files.items name.now)) }
+        ensures fails { shelf_failed result ≡ is_to_fail self.old.failing.items (next_call self.old.calls) }
+        ensures calls { self.new.calls ≡ next_call self.old.calls }
+        ensures failing { self.new.failing ≡ self.old.failing }
+        ensures faults { self.new.faults ≡ faults_after (shelf_failed result) self.old.faults }
+        ensures cause { HasCause (Err ShelfFault.Failed) self.old.faults self.new.faults result }
+        ensures spare { OnOk result (self.new.ledger.spare ≡ self.old.ledger.spare + 1) }
+        ensures kept { OnErr result (self.new.ledger.spare ≡ self.old.ledger.spare) }
+        ensures pasts { map past_of self.new.ledger.shut.items ≡ map past_of self.old.ledger.shut.items }
+        ensures holds { bytes_under self.new.files.items ≡ bytes_under self.old.files.items }
+    {
         if self.fails() {
             return Err(ShelfFault::Failed);
         }

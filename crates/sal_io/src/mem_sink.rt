@@ -1,6 +1,8 @@
 //! A sink in memory.
 
-ghost use Rattle.std.specs.Prelude.{◌≡◌, Some};
+ghost use Rattle.std.specs.Prelude.{◌≡◌, ◌<◌, Some, length, is_some};
+ghost use Rattle.sal_io.specs.Calls.{HasCause, WriteGives};
+ghost use Rattle.sal_io.specs.Failing.{next_call, is_to_fail, faults_after, wrote_failed, WriteFailsAs, WritesWhole};
 
 use crate::answers::Wrote;
 use crate::traits::Sink;
@@ -60,7 +62,18 @@ impl Sink for MemSink {
         self.faults
     }
 
-    fn write(&mut self, bytes: &[u8]) -> Wrote {
+    fn write(&mut self, bytes: &[u8]) -> Wrote
+        requires { 0 < length bytes.now }
+        ensures bytes { WriteGives (Some self.old.bytes) (Some self.new.bytes) result bytes.now }
+        ensures whole { WritesWhole result bytes.now }
+        ensures fails { WriteFailsAs (is_to_fail self.old.failing.items (next_call self.old.calls)) result }
+        ensures calls { self.new.calls ≡ next_call self.old.calls }
+        ensures failing { self.new.failing ≡ self.old.failing }
+        ensures faults { self.new.faults ≡ faults_after (wrote_failed result) self.old.faults }
+        ensures cause { HasCause Wrote.Failed self.old.faults self.new.faults result }
+        ensures name { self.new.name ≡ self.old.name }
+        ensures tells { is_some (Some self.new.bytes) ≡ is_some (Some self.old.bytes) }
+    {
         self.calls = self.calls.saturating_add(1);
         if self.failing.contains(&self.calls) {
             self.faults = self.faults.saturating_add(1);

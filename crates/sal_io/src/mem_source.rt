@@ -1,6 +1,8 @@
 //! A source in memory.
 
-ghost use Rattle.std.specs.Prelude.{◌≡◌, ◌<◌, ◌≤◌, Some, drop, take, length};
+ghost use Rattle.std.specs.Prelude.{◌≡◌, ◌<◌, ◌≤◌, Some, drop, take, length, min, is_some};
+ghost use Rattle.sal_io.specs.Calls.{HasCause, ReadGives};
+ghost use Rattle.sal_io.specs.Failing.{next_call, is_to_fail, faults_after, took_failed, TakesMost};
 
 use crate::answers::Took;
 use crate::traits::Source;
@@ -21,6 +23,7 @@ pub struct MemSource {
 fn copy_front(bytes: &[u8], buf: &mut [u8]) -> usize
     requires some { 0 < length bytes.now }
     requires room { 0 < length buf.old }
+    ensures count { result ≡ min (length bytes.now) (length buf.new) }
     ensures counts { 0 < result }
     ensures here { result ≤ length bytes.now }
     ensures fits { result ≤ length buf.new }
@@ -65,7 +68,19 @@ impl Source for MemSource {
         self.faults
     }
 
-    fn read(&mut self, buf: &mut [u8]) -> Took {
+    fn read(&mut self, buf: &mut [u8]) -> Took
+        requires { 0 < length buf.old }
+        ensures bytes { ReadGives (Some (drop self.old.at self.old.bytes)) (Some (drop self.new.at self.new.bytes)) result buf.new }
+        ensures most { TakesMost (drop self.old.at self.old.bytes) result buf.new }
+        ensures fails { took_failed result ≡ is_to_fail self.old.failing.items (next_call self.old.calls) }
+        ensures calls { self.new.calls ≡ next_call self.old.calls }
+        ensures failing { self.new.failing ≡ self.old.failing }
+        ensures faults { self.new.faults ≡ faults_after (took_failed result) self.old.faults }
+        ensures cause { HasCause Took.Failed self.old.faults self.new.faults result }
+        ensures name { self.new.name ≡ self.old.name }
+        ensures had { Some self.new.bytes ≡ Some self.old.bytes }
+        ensures tells { is_some (Some (drop self.new.at self.new.bytes)) ≡ is_some (Some (drop self.old.at self.old.bytes)) }
+    {
         self.calls = self.calls.saturating_add(1);
         if self.failing.contains(&self.calls) {
             self.faults = self.faults.saturating_add(1);

@@ -1,6 +1,7 @@
 //! Sources, sinks and a shelf over std, which tell nothing of contents.
 
-ghost use Rattle.std.specs.Prelude.{◌≡◌, None, [], map};
+ghost use Rattle.std.specs.Prelude.{◌≡◌, ◌<◌, None, [], map, length, ℕ, List, Option, is_some};
+ghost use Rattle.sal_io.specs.Calls.{HasCause, ReadGives, WriteGives};
 ghost use Rattle.sal_io.specs.Real.{real_past_of};
 
 use crate::answers::{ShelfFault, Took, Wrote};
@@ -48,7 +49,13 @@ impl<R: Read> Source for StdSource<R> {
         self.faults
     }
 
-    fn read(&mut self, buf: &mut [u8]) -> Took {
+    fn read(&mut self, buf: &mut [u8]) -> Took
+        requires { 0 < length buf.old }
+        ensures handed_on { ReadGives (R.remaining self.old.inner) (R.remaining self.new.inner) result buf.new }
+        ensures bytes { ReadGives None None result buf.new }
+        ensures cause { HasCause Took.Failed self.old.faults self.new.faults result }
+        ensures name { self.new.name ≡ self.old.name }
+    {
         match self.inner.read(buf) {
             Ok(0) => Took::End,
             Ok(count) => Took::Got(count),
@@ -94,7 +101,13 @@ impl<W: Write> Sink for StdSink<W> {
         self.faults
     }
 
-    fn write(&mut self, bytes: &[u8]) -> Wrote {
+    fn write(&mut self, bytes: &[u8]) -> Wrote
+        requires { 0 < length bytes.now }
+        ensures handed_on { WriteGives (W.contents self.old.inner) (W.contents self.new.inner) result bytes.now }
+        ensures bytes { WriteGives None None result bytes.now }
+        ensures cause { HasCause Wrote.Failed self.old.faults self.new.faults result }
+        ensures name { self.new.name ≡ self.old.name }
+    {
         if let Ok(count) = self.inner.write(bytes)
             && count > 0
         {
