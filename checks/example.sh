@@ -1,5 +1,5 @@
 #!/usr/bin/env bash
-# Runs the proved program on real files: one grey picture of 16 by 16, and the example clip under two scripts.
+# Runs the proved program on real files: grey pictures of 16 by 16, and the example clip under two scripts.
 set -u
 root=$(cd "$(dirname "${BASH_SOURCE[0]}")/.." && pwd)
 "$root/salsify" --prove >/dev/null 2>&1 || { echo "example: the program isn't proved"; exit 1; }
@@ -7,11 +7,25 @@ folder=$(mktemp -d) || exit 1
 trap 'rm -rf "$folder"' EXIT
 cd "$folder" || exit 1
 
-grey() { head -c "$1" /dev/zero | tr '\0' '\200'; }
-{ printf 'YUV4MPEG2 W16 H16\nFRAME\n'; grey 384; } >in.y4m
+# A picture of 16 by 16 of this luma and grey chroma, after its line.
+picture() {
+    printf 'FRAME\n'
+    head -c 256 /dev/zero | tr '\0' "\\$(printf %o "$1")"
+    head -c 128 /dev/zero | tr '\0' '\200'
+}
+read_clip() { printf 'YUV4MPEG2 W16 H16\n'; for luma in "$@"; do picture "$luma"; done; }
+shown_clip() { printf 'YUV4MPEG2 W16 H16 F30:1 Ip A0:0 C420jpeg\n'; for luma in "$@"; do picture "$luma"; done; }
+
+read_clip 128 >in.y4m
 printf 'next\ndown 1\n' >script
-{ printf 'YUV4MPEG2 W16 H16 F30:1 Ip A0:0 C420jpeg\nFRAME\n'; grey 384; } >wanted.y4m
+shown_clip 128 >wanted.y4m
 "$root/salsify" loop in.y4m script out.y4m || { echo "example: one picture ended with status $?"; exit 1; }
+cmp out.y4m wanted.y4m || exit 1
+
+# The second picture is lost, and the sixth is made from the first, which was acknowledged.
+read_clip 128 100 72 44 90 60 >in.y4m
+shown_clip 128 60 >wanted.y4m
+"$root/salsify" loop in.y4m "$root/examples/first.script" out.y4m || { echo "example: six pictures ended with status $?"; exit 1; }
 cmp out.y4m wanted.y4m || exit 1
 
 # Of the clip's six pictures, each 1,158 bytes with its line after a header of 18 bytes, these.
@@ -34,4 +48,4 @@ cmp out.y4m wanted.y4m || exit 1
 
 "$root/salsify" loop missing "$root/examples/first.script" out.y4m
 [ $? -eq 8 ] || { echo "example: a missing file isn't answered with 8"; exit 1; }
-echo "example: 4 passed, 0 failed"
+echo "example: 5 passed, 0 failed"
