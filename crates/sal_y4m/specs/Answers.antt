@@ -1,7 +1,7 @@
 -- What the reader and the writer answer.
 use Rattle.std.specs.Prelude.{◌≡◌, ◌≢◌, ℕ, ◌≤◌, List, [], length, take, Option, Some, None, Result, Ok, Err, IfSome}
 use Rattle.std.specs.Io.KnownBytes.{Consumes, Appends}
-use Rattle.sal_io.specs.Told.{Reading, ReadsAs, Lacks}
+use Rattle.sal_io.specs.Told.{Reading, ReadsAs, Lacks, NoNewline}
 use Rattle.sal_base.specs.declared.picture.Picture.{Picture}
 use Rattle.sal_y4m.specs.declared.head.Head.{Head}
 use Rattle.sal_y4m.specs.declared.fault.Y4mFault.{Y4mFault}
@@ -47,6 +47,10 @@ MarkGives old new marks.Failed = Unit {0}
 abbrev pub OpenGives : Option (List ℕ) → Option (List ℕ) → Result (Unit {0}) Y4mFault → Head → Type 0
 OpenGives old new (Ok x) head = ReadsAs header_at old new head
 OpenGives old new (Err e) head = Fails header_at old e
+
+-- of a header line only bytes before its newline were taken
+abbrev pub HeaderUnread : Option (List ℕ) → Option (List ℕ) → Type 0
+HeaderUnread old new = (front : List ℕ) × NoNewline front × Consumes old new front
 
 -- a Bad has place 0 and the one reason of the narrow form
 abbrev pub IsForm : {X : Type 0} → Result X Y4mFault → Type 0

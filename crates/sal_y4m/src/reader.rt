@@ -5,7 +5,7 @@ ghost use Rattle.std.specs.Option.{ForSome, ForNone};
 ghost use Rattle.sal_base.specs.Picture.{IsPicture};
 ghost use Rattle.sal_io.specs.Calls.{HasCause};
 ghost use Rattle.sal_y4m.specs.Grammar.{IsNarrow, header_at};
-ghost use Rattle.sal_y4m.specs.Answers.{Gives, NextGives, OpenGives, IsForm, lasting};
+ghost use Rattle.sal_y4m.specs.Answers.{Gives, NextGives, OpenGives, HeaderUnread, IsForm, lasting};
 
 use crate::fault::Y4mFault;
 use crate::head::{Head, header};
@@ -24,6 +24,7 @@ pub struct Reader<S> {
 
 fn read_head<S: Source>(source: &mut S) -> Result<Head, Y4mFault>
     ensures told { Gives header_at (S.left source.old) (S.left source.new) result }
+    ensures unread { result ≡ Err Y4mFault.ReadFault → HeaderUnread (S.left source.old) (S.left source.new) }
     ensures narrow { IfOk result IsNarrow }
     ensures place { IsForm result }
     ensures never { result ≢ Err Y4mFault.Memory }
@@ -81,6 +82,7 @@ impl<S: Source> Reader<S> {
         ensures again { ForSome self.old.kept (λ fault. result ≡ Err fault) }
         ensures rests { ForSome self.old.kept (λ fault. self.new ≡ self.old) }
         ensures told { ForNone self.old.kept (OpenGives (S.left self.old.source) (S.left self.new.source) result self.new.head) }
+        ensures unread { ForNone self.old.kept (result ≡ Err Y4mFault.ReadFault → HeaderUnread (S.left self.old.source) (S.left self.new.source)) }
         ensures place { ForNone self.old.kept (IsForm result) }
         ensures never { ForNone self.old.kept (result ≢ Err Y4mFault.Memory) }
         ensures cause { ForNone self.old.kept (HasCause (Err Y4mFault.ReadFault) (S.faults self.old.source) (S.faults self.new.source) result) }
