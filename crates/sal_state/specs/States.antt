@@ -49,8 +49,10 @@ pub record AreReferences (r : References) : Type 0 where
   pub golden : HasBlocks (blocks_of r.width) (blocks_of r.height) r.golden
   pub alt : HasBlocks (blocks_of r.width) (blocks_of r.height) r.alt
 
--- references are of one size, the segment map has an entry for each of its macroblocks, and each names one of four segments
+-- references are of one size, the segment map has an entry for each of its macroblocks, and each names one of four segments; before the
+-- first key frame nothing is kept but what a key frame begins with
 pub record IsState (s : StateData) : Type 0 where
+  pub first : s.references ≡ None → s.kept ≡ initial_kept
   pub references : IfSome s.references AreReferences
   pub segments : All (λ segment. segment < 4) s.kept.map
   pub map : IfSome s.references (λ r. length s.kept.map ≡ blocks_of r.width * blocks_of r.height)

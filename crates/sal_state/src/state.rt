@@ -1,10 +1,10 @@
 //! States.
 
-ghost use Rattle.std.specs.Prelude.{◌≡◌, ◌++◌, ◌*◌, ◌<◌, ℕ, List, All, IfOk, IfSome, Some, length};
+ghost use Rattle.std.specs.Prelude.{◌≡◌, ◌++◌, ◌*◌, ◌<◌, ℕ, List, All, IfOk, IfSome, Some, None, length};
 ghost use Rattle.std.specs.Arc.{arc_value};
 ghost use Rattle.std.specs.Option.{option_copied};
 ghost use Rattle.sal_base.specs.Pictures.{blocks_of};
-ghost use Rattle.sal_state.specs.States.{initial_state, AreReferences, IsState};
+ghost use Rattle.sal_state.specs.States.{initial_kept, initial_state, AreReferences, IsState};
 ghost use Rattle.sha2.specs.Sha256.{sha256};
 ghost use Rattle.sha2.specs.Hashers.{Holds256};
 ghost use Rattle.sal_state.specs.Name.{name_of};
@@ -23,10 +23,15 @@ use std::sync::Arc;
 /// The size of a state's pictures, in samples of luma, and its three references.
 #[derive(Drop)]
 pub struct References {
+    /// Samples of luma in a row, from 1 to 1,280.
     pub width: u16,
+    /// Rows of luma, from 1 to 720.
     pub height: u16,
+    /// What most inter frames are predicted from: the last picture that replaced it.
     pub last: Arc<Reference>,
+    /// The golden reference, which an inter frame refreshes or makes a copy of another.
     pub golden: Arc<Reference>,
+    /// The alternate reference, which goes by the same rules.
     pub alt: Arc<Reference>,
 }
 
@@ -92,9 +97,10 @@ impl State {
         }
     }
 
-    /// What later headers and macroblocks are read over.
+    /// What later headers and macroblocks are read over; before the first key frame what a key frame begins with.
     pub fn kept(&self) -> &Kept
         ensures kept { result.now ≡ self.now.kept }
+        ensures first { self.now.references ≡ None → result.now ≡ initial_kept }
         ensures segments { All (λ segment. segment < 4) result.now.map }
         ensures map { IfSome self.now.references (λ r. length result.now.map ≡ blocks_of r.width * blocks_of r.height) }
     {

@@ -1,4 +1,4 @@
-//! Digests of states, which an independent program gave.
+//! Digests of states, which an independent program gave, and that threads share states.
 
 ghost use Rattle.std.specs.Prelude.{◌<◌, IfOk};
 ghost use Rattle.std.specs.Arc.{arc_value};
@@ -76,4 +76,13 @@ fn states_have_their_digests(rt: HostRuntime) -> Result<(), Fail> {
     ];
     assert_eq!(rt; state.as_ref().map(|s| s.name()), Some(Name(name)));
     Ok(())
+}
+
+/// Takes only what threads may share.
+fn is_shared<T: Send + Sync>() {}
+
+#[test]
+fn threads_share_states() {
+    is_shared::<State>();
+    is_shared::<Reference>();
 }
