@@ -1,5 +1,5 @@
 -- A codec as functions.
-use Rattle.std.specs.Prelude.{◌≡◌, ◌<◌, ◌≤◌, ℕ, List, [], ◌++◌, length, replicate, take, Bool, Result, Ok, Err}
+use Rattle.std.specs.Prelude.{◌≡◌, ◌<◌, ◌≤◌, ℕ, List, [], ◌++◌, length, replicate, take, Bool, Result, Ok, Err, IsOk}
 use Rattle.sal_base.specs.Picture.{IsPicture}
 use Rattle.sal_base.specs.declared.picture.Picture.{Picture}
 use Rattle.sal_base.specs.declared.coding.Kind.{Kind}
@@ -68,8 +68,8 @@ pub record IsLawful {S : Type 0} (c : Coding S) : Type 0 where
   pub one_size : (s : S) (w h v g : ℕ) → c.takes s w h → c.takes s v g → (w ≡ v) × (h ≡ g)
   pub sound : (s : S) (p : Picture) (q : ℕ) (k : Kind) (bytes : List ℕ) (target : S) (recon : Picture) → MayEncode c s p q k → c.encode s p q k ≡ Frame bytes target recon → IsSound c s p bytes target recon
 
--- what a call that decodes answers, but for want of memory
+-- what a call that decodes answers: a fault of the bytes is answered with it, never as want of memory
 abbrev pub DecodesAs : {X : Type 0} → Result X Fault → Result X DecodeFault → Type 0
 DecodesAs said (Ok x) = said ≡ Ok x
 DecodesAs said (Err (Bad f)) = said ≡ Err f
-DecodesAs said (Err Memory) = Unit {0}
+DecodesAs said (Err Memory) = IsOk said

@@ -42,7 +42,7 @@ pub trait Codec: Copy + Send + Sync {
         requires { MayEncode coding state.now picture.now q kind }
         ensures { IfOk result (λ e. e ≡ coding.encode state.now picture.now q kind) };
 
-    /// Decodes a frame's bytes from a state, or gives their first fault.
+    /// Decodes a frame's bytes from a state, or gives their first fault; memory may be wanting only where there is none.
     fn decode(
         &self,
         alloc: Global,
