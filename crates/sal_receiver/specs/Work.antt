@@ -1,10 +1,10 @@
 -- A frame that is handed out, and its decoding.
-use Rattle.std.specs.Prelude.{◌≡◌, ℕ, Bool, List, Some, IsTrue}
+use Rattle.std.specs.Prelude.{◌≡◌, ℕ, Bool, List, Some, IsTrue, IsOk}
 use Rattle.std.specs.Arc.{arc_value}
 use Rattle.std.specs.declared.sync.Arc.{Arc}
 use Rattle.sal_receiver.specs.declared.pending.Task.{Task}
 use Rattle.sal_codec.specs.Coding.{Coding}
-use Rattle.sal_receiver.specs.Past.{Call, Outcome}
+use Rattle.sal_receiver.specs.Past.{Call, Outcome, NoMemory}
 use Rattle.sal_receiver.specs.Ready.{ready, frame, target_name, is_out, decoding_of}
 
 -- a frame to be decoded from a state
@@ -27,9 +27,9 @@ pub record Work (S : Type 0) : Type 0 where
   pub outcome : Outcome S
 
 module _ {S : Type 0} (codec : Coding S) where
-  -- the codec's decoding of the frame from its source, or want of memory
+  -- the codec's decoding of the frame from its source, or want of memory, which comes only where the bytes are a frame of the source
   abbrev pub IsRun : Handed S → Outcome S → Type 0
-  IsRun h outcome = (ran : Bool) × (outcome ≡ decoding_of codec (Some h.source) h.bytes ran)
+  IsRun h outcome = (ran : Bool) × (outcome ≡ decoding_of codec (Some h.source) h.bytes ran) × (outcome ≡ NoMemory → IsOk (codec.decode h.source h.bytes))
 
   -- the frame of its number, from the state from which it is ready
   pub record IsFrameOf (past : List (Call S)) (h : Handed S) : Type 0 where

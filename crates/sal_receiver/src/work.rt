@@ -1,6 +1,6 @@
 //! A frame that is handed out, and its decoding.
 
-ghost use Rattle.std.specs.Prelude.{◌≡◌, ◌⊎◌, Bool, Some};
+ghost use Rattle.std.specs.Prelude.{◌≡◌, ◌⊎◌, Bool, Some, IsOk};
 ghost use Rattle.std.specs.Option.{option_map};
 ghost use Rattle.sal_receiver.specs.Past.{Sound, NoMemory};
 ghost use Rattle.sal_receiver.specs.Work.{IsRun, handed_as};
@@ -22,7 +22,7 @@ pub enum Outcome<S> {
     Frame(Shares<S>, [u8; 32], Picture),
     /// The bytes are no frame of the source.
     Fault(Fault),
-    /// There was no memory for it.
+    /// The bytes are a frame of the source, and there was no memory for decoding it.
     NoMemory,
 }
 
@@ -42,7 +42,7 @@ impl<C: Codec> Model for Ready<C> {
 }
 
 /// A frame that was handed out, and what came of decoding it. Only `Ready::run` makes one, and the outcome is the codec's
-/// decoding of the frame from its source, or want of memory.
+/// decoding of the frame from its source, or want of memory where the bytes are a frame of it.
 #[derive(Drop)]
 pub struct Decoding<C: Codec> {
     ready: Ready<C>,
@@ -76,7 +76,7 @@ impl<C: Codec> Ready<C> {
         self.task.target
     }
 
-    /// Decodes the frame.
+    /// Decodes the frame. A fault of the bytes is told as it is; memory may be wanting only where there is none.
     pub fn run(self, alloc: Global, codec: &C) -> Decoding<C>
         ensures handed { result.handed ≡ self }
         ensures run { IsRun C.coding result.handed result.outcome }
@@ -146,6 +146,7 @@ fn framed<C: Codec>(alloc: Global, codec: &C, decoded: Decoded<C::State>) -> Out
 // What comes of decoding a frame from a state.
 fn ran<C: Codec>(alloc: Global, codec: &C, source: &C::State, bytes: &[u8]) -> Outcome<C::State>
     ensures run { (ran : Bool) × (outcome_seen result ≡ decoding_of C.coding (Some source.now) bytes.now ran) }
+    ensures wanting { outcome_seen result ≡ NoMemory → IsOk (C.coding.decode source.now bytes.now) }
     ensures shared { IsShared C.coding result }
 {
     match codec.decode(alloc, source, bytes) {
