@@ -17,13 +17,16 @@ pub record IsFirst (text front rest : List ℕ) : Type 0 where
   pub lines : split_lines text ≡ line ∷ split_lines rest
   pub front_is : front ≡ text_of line
 
--- a line of this meaning and number is added to these, unless it is skipped
+-- a line of this meaning and number is added to these, unless it is skipped; memory may be wanting only for one that says
+-- something, and then nothing is added
 abbrev pub Adds : Meaning → ℕ → List Numbered → List Numbered → Result (Unit {0}) ScriptFault → Type 0
 Adds Skipped number old new (Ok done) = new ≡ old
 Adds (Said line) number old new (Ok done) = new ≡ old ++ (number, line) ∷ []
 Adds meaning.Bad number old new (Ok done) = ⊥
 Adds meant number old new (Err (Bad n)) = (meant ≡ meaning.Bad) × (n ≡ number)
-Adds meant number old new (Err Memory) = Unit {0}
+Adds Skipped number old new (Err Memory) = ⊥
+Adds (Said line) number old new (Err Memory) = new ≡ old
+Adds meaning.Bad number old new (Err Memory) = ⊥
 Adds meant number old new (Err ReadFault) = ⊥
 
 -- what these bytes say, or want of memory
