@@ -18,6 +18,7 @@ use Rattle.sal_sender.specs.Choosing.{reported, report_in, first_of}
 use Rattle.sal_sender.specs.Answers.{jobs_after, is_out, report_answer}
 use Rattle.sal_sender.specs.Seats.{seat_with, is_seat_of, is_job_of, is_open_job, with_report}
 use Rattle.sal_sender.specs.Work.{Work, Ran}
+use Rattle.sal_sender.specs.Sending.{after_report}
 use Rattle.sal_sender.specs.Machine.{Machine, flag}
 use Rattle.sal_sender.specs.Stands.{Summary, summary, work_in, seat_in, spare_in, open_in, IsOwnWork, Keeps, Stands}
 use Rattle.sal_sender.proofs.Quiet.{parts_stay, quiet_stranger, stands_quiet}
@@ -66,6 +67,24 @@ module _ {R : Type 0} where
   report_none id r o h =
       let n = none_here (eqb o.coarse.id id) (eqb o.fine.id id) (is_seat_of id o.spare) h in
       rw (n.0, n.1) (open_parts o.from_tip o.coarse o.coarse _ o.spare o.fine o.fine refl (spare_other id r o.spare n.2) refl)
+
+  -- nor does one of no open job
+  late_stays : (o : Option (Open R)) (id : ℕ) (r : R) → is_open_job id o ≡ false → option_map (with_report id r) o ≡ o
+  late_stays None id r h = refl
+  late_stays (Some o) id r h = ap (λ x. Some x) (report_none id r o h)
+
+module _ {S : Type 0} where
+  same_taken : (m : Machine S) (s t : Option (Open (Ran S))) (o p : List Bool) → s ≡ t → o ≡ p → record m { seats = s; out = o } ≡ record m { seats = t; out = p }
+  same_taken m s t o p a b = rw (a, b) refl
+
+  -- what the report of a job that is out leaves
+  pub report_left : (inside m : Machine S) (r : Ran S) (id : ℕ) (seats : Option (Open (Ran S))) (out : List Bool) (b : Bool) (answer : Reported) → inside ≡ m → id ≡ r.work.id → out ≡ set inside.out id false → b ≡ is_open_job id inside.seats → seats ≡ option_map (with_report id r) inside.seats → answer ≡ cond b Kept Late → record inside { seats = seats; out = out } ≡ after_report m r answer
+  report_left inside m r id seats out true answer view own marked known told is =
+      same_taken inside seats (option_map (with_report r.work.id r) inside.seats) out (set inside.out r.work.id false) (told ∙ ap (λ i. option_map (with_report i r) inside.seats) own) (marked ∙ ap (λ i. set inside.out i false) own)
+      ∙ (ap (λ v. after_report v r Kept) view ∙ ap (λ a. after_report m r a) (sym is))
+  report_left inside m r id seats out false answer view own marked known told is =
+      same_taken inside seats inside.seats out (set inside.out r.work.id false) (told ∙ late_stays inside.seats id r (sym known)) (marked ∙ ap (λ i. set inside.out i false) own)
+      ∙ (ap (λ v. after_report v r Late) view ∙ ap (λ a. after_report m r a) (sym is))
 
 -- whether a job was reported after one more report
 reported_more : (id : ℕ) (ran : Bool) (past : Past) (j : ℕ) → reported (Report id ran Kept ∷ past) j ≡ cond (eqb id j) (Some ran) (reported past j)

@@ -1,5 +1,6 @@
 -- What is sent for the open picture, in the words of what the sender keeps.
-use Rattle.std.specs.Prelude.{◌≡◌, ℕ, ◌+◌, ◌-◌, ◌≤◌, min, max, Bool, true, false, List, [], ◌∷◌, map, filter, Some, None, ◌==◌, nat_le, if◌then◌else◌}
+use Rattle.std.specs.Prelude.{◌≡◌, ℕ, ◌+◌, ◌-◌, ◌≤◌, min, max, Bool, true, false, List, [], ◌∷◌, map, filter, slice_set, Some, None, ◌==◌, nat_le, if◌then◌else◌}
+use Rattle.std.specs.Option.{option_map}
 use Rattle.std.specs.Arc.{arc_value}
 use Rattle.std.specs.declared.sync.Arc.{Arc}
 use Rattle.sal_base.specs.declared.name.Name.{Name}
@@ -12,10 +13,13 @@ use Rattle.sal_chain.specs.Held.{placed, from_floor}
 use Rattle.sal_budget.specs.declared.flight.Flight.{Flight}
 use Rattle.sal_budget.specs.Budget.{budget_of, least_of}
 use Rattle.sal_sender.specs.declared.choice.Choice.{Choice}
+use Rattle.sal_sender.specs.declared.answers.Reported.{Reported}
+use Rattle.sal_sender.specs.declared.answers.Reported.TheVariants.{Stranger, Late, Kept}
 use Rattle.sal_sender.specs.declared.link.Link.{Link}
 use Rattle.sal_sender.specs.declared.seat.Seat.{Seat}
 use Rattle.sal_sender.specs.Jobs.{kind_of}
 use Rattle.sal_sender.specs.Links.{lost_in}
+use Rattle.sal_sender.specs.Seats.{with_report}
 use Rattle.sal_sender.specs.Planned.{safe_of}
 use Rattle.sal_sender.specs.Work.{Work, Ran, encoded}
 use Rattle.sal_sender.specs.OneThread.{burst_of}
@@ -79,6 +83,12 @@ after_choice m choice name state = record m {
   sent = m.sent + choice.count;
   q = choice.q;
 }
+
+-- what the sender keeps after a report: its job isn't out any more, and of a late one nothing else is kept
+abbrev pub after_report : {S : Type 0} → Machine S → Ran S → Reported → Machine S
+after_report m r Stranger = m
+after_report m r Late = record m { out = slice_set m.out r.work.id false }
+after_report m r Kept = record m { seats = option_map (with_report r.work.id r) m.seats; out = slice_set m.out r.work.id false }
 
 -- what the sender keeps after a picture for which nothing is sent
 abbrev pub after_nothing : {S : Type 0} → Machine S → ℕ → Machine S

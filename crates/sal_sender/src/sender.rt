@@ -20,7 +20,7 @@ ghost use Rattle.std.specs.Arc.{arc_value};
 ghost use Rattle.sal_sender.specs.Planned.{plan_of, count_of, coarse_q, work_from, queue_of, after_start};
 ghost use Rattle.sal_sender.specs.Machine.{Machine, IsHead, IsOwn, IsSeat, IsSized};
 ghost use Rattle.sal_sender.specs.Stands.{Stands, IsOwnWork};
-ghost use Rattle.sal_sender.specs.Sending.{lost_of, budget_in, floor_in, choice_in, with_choice, IsNext, IsTaken, after_choice, after_nothing};
+ghost use Rattle.sal_sender.specs.Sending.{lost_of, budget_in, floor_in, choice_in, with_choice, IsNext, IsTaken, after_report, after_choice, after_nothing};
 ghost use Rattle.sal_sender.specs.Picking.{has_fit, size_in};
 ghost use Rattle.sal_sender.specs.Answers.{closes};
 ghost use Rattle.sal_sender.specs.declared.answers.Chosen.TheVariants.{Sent};
@@ -148,13 +148,15 @@ impl<C: Codec> Sender<C> {
         Some(job)
     }
 
-    /// Takes the report of a job that this sender handed out.
+    /// Takes the report of a job that this sender handed out. It is kept where the job's picture is open. A late one changes
+    /// nothing of what was chosen: its job is out no more, and that is all.
     #[tactic(auto, using(crate::proofs::Near::seats_reported))]
     pub fn report(&mut self, report: Report<C>) -> Reported
         requires size { HasSides self.old.session.head.width self.old.session.head.height report.work.samples }
         ensures answer { (past : Past) → Stands C.coding self.old past → result ≡ report_answer past report.work.id }
         ensures answered { (past : Past) → Stands C.coding self.old past → IsOwnWork C.coding past report.work → Answers C.coding self.old.session (ReportCall report.work.id report.ran result) past × Stands C.coding self.new (ReportCall report.work.id report.ran result ∷ past) }
         ensures refused { result ≡ Stranger → self.new ≡ self.old }
+        ensures after { self.new ≡ after_report self.old report result }
         ensures session { self.new.session ≡ self.old.session }
     {
         let id = report.id();
