@@ -1,10 +1,11 @@
 -- What holds of every past of a sender, whatever came in whatever order.
-use Rattle.std.specs.Prelude.{◌≡◌, ◌⊎◌, ℕ, max, ◌≤◌, false, [], ◌∷◌, map, Some, IsSome}
+use Rattle.std.specs.Prelude.{◌≡◌, ◌⊎◌, ℕ, max, ◌≤◌, Bool, true, false, [], ◌∷◌, map, Some, IsSome}
 use Rattle.sal_base.specs.Lists.{Each}
 use Rattle.sal_codec.specs.Coding.{Coding}
 use Rattle.sal_wire.specs.Spelling.{text}
 use Rattle.sal_sender.specs.declared.answers.Next.TheVariants.{Memory as NextMemory}
-use Rattle.sal_sender.specs.declared.answers.Chosen.TheVariants.{Sent, Nothing, Memory as ChosenMemory}
+use Rattle.sal_sender.specs.declared.answers.Chosen.{Chosen}
+use Rattle.sal_sender.specs.declared.answers.Chosen.TheVariants.{NoPicture, Waiting, Sent, Nothing, Memory as ChosenMemory}
 use Rattle.sal_sender.specs.Past.{Call, Past, NextPicture, TakeJob, Report, Choose, Hear, choices, pictures, datagrams, opened, now}
 use Rattle.sal_sender.specs.OneThread.{Session, one_thread}
 use Rattle.sal_sender.specs.Jobs.{Job, jobs}
@@ -14,6 +15,14 @@ use Rattle.sal_sender.specs.Answers.{next_answer, take_answer, report_answer, he
 -- sent is what one thread sends that makes these choices
 abbrev pub IsWhatOneThreadSends : {S : Type 0} → Coding S → Session → Past → Type 0
 IsWhatOneThreadSends codec session past = datagrams past ≡ map text (one_thread codec session (pictures past) (choices past))
+
+-- nothing was chosen for the open picture, or there was no memory
+abbrev pub is_nothing : Chosen → Bool
+is_nothing NoPicture = false
+is_nothing (Waiting id) = false
+is_nothing (Sent choice burst) = false
+is_nothing (Nothing budget sizes) = true
+is_nothing ChosenMemory = true
 
 module _ {S : Type 0} (codec : Coding S) (session : Session) where
   -- a call may be answered so after a past
@@ -38,10 +47,15 @@ module _ {S : Type 0} (codec : Coding S) (session : Session) where
     pub in_already : IsSome (reported past job.id)
     pub none : Each (λ c. fits (may_send session past moment) c ≡ false) (candidates codec before past)
 
-  -- a choice has at most what may be sent at its moment; nothing is chosen only where nothing fits
+  -- a choice has at most what may be sent at its moment, which is that of the call; nothing is chosen only where nothing fits
+  abbrev pub IsWithin : Past → ℕ → Chosen → Type 0
+  IsWithin past moment (Sent choice burst) = (choice.moment ≡ max (now past) moment) × (choice.count ≤ may_send session past choice.moment)
+  IsWithin past moment (Nothing budget sizes) = NothingFits past (max (now past) moment)
+  IsWithin past moment _ = Unit {0}
+
+  -- a choice fits, and nothing is chosen exactly where nothing fits, but for want of memory
   abbrev pub Fits : Call → Past → Type 0
-  Fits (Choose moment (Sent choice burst)) past = choice.count ≤ may_send session past choice.moment
-  Fits (Choose moment (Nothing budget sizes)) past = NothingFits past (max (now past) moment)
+  Fits (Choose moment answer) past = IsWithin past moment answer × (NothingFits past (max (now past) moment) → is_nothing answer ≡ true)
   Fits _ past = Unit {0}
 
   abbrev pub FitsItsBudget : Past → Type 0

@@ -13,7 +13,7 @@ pub fn sends_as_one_thread<C: Codec>()
     ensures { (session : Session) (past : Past) → IsLegal C.coding session past → IsWhatOneThreadSends C.coding session past }
 {}
 
-/// A choice fits its budget, and nothing is chosen only where nothing fits.
+/// A choice fits its budget, and nothing is chosen exactly where nothing fits, but for want of memory.
 #[tactic(auto, using(crate::proofs::Budgets::budget_of_legal))]
 pub fn fits_its_budget<C: Codec>()
     ensures { (session : Session) (past : Past) → IsLegal C.coding session past → FitsItsBudget C.coding session past }
