@@ -18,8 +18,11 @@ const PIECE: usize = 1200;
 /// A frame that is to be sent for a choice.
 #[derive(Clone, Copy)]
 pub struct Cut<'a> {
+    /// The session's number.
     pub session: u32,
+    /// The session's sides and rate.
     pub head: Head,
+    /// The choice.
     pub choice: Choice,
     /// The name of the state that the frame was encoded from.
     pub source: Name,
@@ -27,6 +30,7 @@ pub struct Cut<'a> {
     pub target: Name,
     /// Microseconds since the choice before.
     pub pause: u32,
+    /// The frame.
     pub bytes: &'a [u8],
 }
 

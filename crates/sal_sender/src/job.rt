@@ -43,6 +43,7 @@ impl<C: Codec> Model for Job<C> {
 }
 
 impl<C: Codec> Job<C> {
+    /// A job that wasn't handed out yet.
     pub(crate) fn new(
         id: u32,
         picture: u32,
@@ -83,6 +84,7 @@ impl<C: Codec> Job<C> {
         self.picture
     }
 
+    /// What it is for.
     pub fn role(&self) -> JobRole
         ensures { result ≡ self.now.role }
     {
@@ -96,6 +98,7 @@ impl<C: Codec> Job<C> {
         self.q
     }
 
+    /// Whether it makes a key frame.
     pub fn kind(&self) -> Kind
         ensures { result ≡ self.now.kind }
     {

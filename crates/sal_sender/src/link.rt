@@ -11,7 +11,9 @@ use sal_base::Name;
 /// A choice, and whether its state was acknowledged.
 #[derive(Clone, Copy, Debug)]
 pub struct Link {
+    /// The choice.
     pub choice: Choice,
+    /// Whether the receiver said that it holds its state.
     pub acked: bool,
 }
 

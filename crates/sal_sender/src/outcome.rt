@@ -9,5 +9,6 @@ pub enum Outcome<T> {
     Frame(Bytes, T, Picture),
     /// The first partition would have this many bytes, more than its field can say.
     Oversize(u32),
+    /// There was no memory to encode it.
     NoMemory,
 }

@@ -43,6 +43,7 @@ fn count(frame: &Bytes) -> u32
 }
 
 impl<C: Codec> Report<C> {
+    /// The report of a job that gave this.
     pub(crate) fn new(job: Job<C>, target_name: Name, ran: Outcome<Arc<C::State>>) -> Report<C>
         requires outcome { IsOutcome (encoded C.coding job) ran }
         requires named { IsNamed C.coding target_name ran }
@@ -69,6 +70,7 @@ impl<C: Codec> Report<C> {
         self.job.picture()
     }
 
+    /// What the job is for.
     pub fn role(&self) -> JobRole
         ensures { result ≡ self.now.work.role }
     {
@@ -82,6 +84,7 @@ impl<C: Codec> Report<C> {
         self.job.q()
     }
 
+    /// Whether the job makes a key frame.
     pub fn kind(&self) -> Kind
         ensures { result ≡ self.now.work.kind }
     {
@@ -95,6 +98,7 @@ impl<C: Codec> Report<C> {
     {
         &self.ran
     }
+
     /// The name of the state that the frame was encoded from.
     pub(crate) fn source_name(&self) -> Name
         ensures named { result.0 ≡ name_in C.coding self.now.work.source }

@@ -9,27 +9,39 @@ use crate::choice::JobRole;
 /// One job of the open picture, and its report where that is in.
 #[derive(Drop)]
 pub struct Seat<R> {
+    /// The job's number.
     pub id: u32,
+    /// What it is for.
     pub role: JobRole,
+    /// The number whose state it is encoded from, 0 for the initial one.
     pub source: u32,
+    /// The quantiser.
     pub q: u8,
+    /// Its report, where that is in.
     pub report: Option<R>,
 }
 
 /// The jobs of the open picture, and whether it was to go on from the tip.
 #[derive(Drop)]
 pub struct Open<R> {
+    /// Whether it was to go on from the tip.
     pub from_tip: bool,
+    /// The coarse job.
     pub coarse: Seat<R>,
+    /// The spare job, where there is one.
     pub spare: Option<Seat<R>>,
+    /// The fine job.
     pub fine: Seat<R>,
 }
 
 /// The jobs of the newest picture that weren't handed out.
 #[derive(Drop)]
 pub struct Queue<J> {
+    /// The coarse job, which is handed out first.
     pub coarse: Option<J>,
+    /// The spare job.
     pub spare: Option<J>,
+    /// The fine job, which is handed out last.
     pub fine: Option<J>,
 }
 

@@ -12,10 +12,15 @@ use std::alloc::Global;
 /// A choice with its datagrams, and what is kept of it: the name and the state that it leads to, and the links with it. T is a share of a state.
 #[derive(Drop)]
 pub struct Taken<T> {
+    /// The choice.
     pub choice: Choice,
+    /// The name of the state.
     pub name: Name,
+    /// The state that it leads to.
     pub state: T,
+    /// The links with it.
     pub links: Vec<Link>,
+    /// Its datagrams.
     pub burst: Burst,
 }
 

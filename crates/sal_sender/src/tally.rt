@@ -14,9 +14,13 @@ use sal_budget::{Flight, budget};
 /// The greatest serial heard with its gap and its moment, and the machine's moment.
 #[derive(Clone, Copy, Debug)]
 pub struct Tally {
+    /// The greatest serial heard.
     pub heard: u32,
+    /// The gap between datagrams that came with it, in microseconds.
     pub average: u32,
+    /// When it was heard, in microseconds.
     pub heard_at: u64,
+    /// The greatest moment of a call that wasn't refused, in microseconds.
     pub moment: u64,
 }
 
