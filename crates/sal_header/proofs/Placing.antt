@@ -1,13 +1,13 @@
 -- Partitions placed one by one.
-use Rattle.std.proofs.Common.{◌≡◌, ℕ, suc, ◌+◌, ◌-◌, ◌*◌, ◌%◌, ◌^◌, ◌<◌, ◌≤◌, ◌∙◌, ◌≢◌, lit<, List, [], ◌∷◌, ◌++◌, Bool, true, false, refl, sym, ap, arith, append_assoc, subst, inl, inr, get_or, take, set, length, Result, Ok, Err}
+use Rattle.std.proofs.Common.{◌≡◌, ℕ, suc, zero, ◌+◌, ◌-◌, ◌*◌, ◌%◌, ◌^◌, ◌<◌, ◌≤◌, ◌∙◌, ◌≢◌, lit<, List, [], ◌∷◌, ◌++◌, Bool, true, false, refl, sym, ap, arith, append_assoc, subst, inl, inr, get_or, take, drop, set, length, replicate, Result, Ok, Err}
 use Rattle.std.specs.Prelude.{nat_lt, if◌then◌else◌}
 use Rattle.std.proofs.lemmas.Bool.{le-ltb, lt-ltb, cases_lt}
-use Rattle.std.proofs.lemmas.List.{take_more_set, get_or-set_same, get_or-set_other}
+use Rattle.std.proofs.lemmas.List.{take_more_set, get_or-set_same, get_or-set_other, take_all, take-append-drop, drop-drop, drop-set-lt, length-drop, append-nil, drop-replicate}
 use Rattle.sal_base.specs.declared.coding.Fault.{Fault}
 use Rattle.sal_base.specs.declared.coding.Fault.TheVariants.{Partition}
 use Rattle.std.proofs.Math.Nat.{pow-le-pow_right, one-le-pow, mod-eq_of_lt, lt_of_le_of_lt}
 use Rattle.sal_header.specs.declared.tag.Tag.{Tag}
-use Rattle.sal_header.specs.Tags.{placed, then_part, little, parts_of, head_length, AreInside}
+use Rattle.sal_header.specs.Tags.{placed, then_part, little, parts_of, head_length, bytes_at, parts_start, AreInside}
 
 -- partitions, and what comes after them
 abbrev pub after_parts : List (ℕ × ℕ) → Result (List (ℕ × ℕ)) Fault → Result (List (ℕ × ℕ)) Fault
@@ -103,3 +103,43 @@ inside_more end i at size ps lt le h k less = elim (cases_lt k i) [
       let P : ℕ × ℕ → Type 0 = λ x. x.0 + x.1 ≤ end in
       subst P (sym same) le
 ]
+
+-- the partitions that are placed have all bytes from the first place on
+joined_more : (bytes : List ℕ) (k at size : ℕ) (b : Bool) (r : Result (List (ℕ × ℕ)) Fault) (ps : List (ℕ × ℕ)) → (if b then Err (Partition k) else then_part (at, size) r) ≡ Ok ps
+    → ((qs : List (ℕ × ℕ)) → r ≡ Ok qs → bytes_at bytes qs ≡ drop (at + size) bytes) → bytes_at bytes ps ≡ drop at bytes
+joined_more bytes k at size true r ps h later = cc
+joined_more bytes k at size false (Err f) ps h later = cc
+joined_more bytes k at size false (Ok qs) ps h later =
+    let same : (at, size) ∷ qs ≡ ps = cc in
+    let P : List (ℕ × ℕ) → Type 0 = λ xs. bytes_at bytes xs ≡ drop at bytes in
+    let behind : bytes_at bytes qs ≡ drop size (drop at bytes) = later qs refl ∙ sym (drop-drop size at bytes) in
+    subst P same (ap (λ (xs : List ℕ). take size (drop at bytes) ++ xs) behind ∙ take-append-drop size (drop at bytes))
+
+joined : (bytes : List ℕ) (table k n at : ℕ) (ps : List (ℕ × ℕ)) → placed bytes table k n at ≡ Ok ps → bytes_at bytes ps ≡ drop at bytes
+unfolding placed
+joined bytes table k zero at ps h =
+    let same : (at, length bytes - at) ∷ [] ≡ ps = cc in
+    let P : List (ℕ × ℕ) → Type 0 = λ xs. bytes_at bytes xs ≡ drop at bytes in
+    let e : length (drop at bytes) ≤ length bytes - at = omega (arith, length-drop at bytes) in
+    subst P same (append-nil (take (length bytes - at) (drop at bytes)) ∙ take_all (length bytes - at) (drop at bytes) e)
+joined bytes table k (suc n) at ps h =
+    let size = little 3 bytes (table + 3 * k) in
+    joined_more bytes k at size (nat_lt (length bytes - at) size) (placed bytes table (k + 1) n (at + size)) ps h (λ qs e. joined bytes table (k + 1) n (at + size) qs e)
+
+pub all_joined : (bytes : List ℕ) (tag : Tag) (log2 : ℕ) (ps : List (ℕ × ℕ)) → parts_of bytes tag log2 ≡ Ok ps → bytes_at bytes ps ≡ drop (parts_start tag log2) bytes
+unfolding parts_of
+all_joined bytes tag log2 ps h = where_sized (nat_lt (length bytes - (head_length tag.key + tag.size)) (3 * (2 ^ log2 - 1))) h
+  where
+    where_sized : (b : Bool) → (if b then Err (Partition 0) else placed bytes (head_length tag.key + tag.size) 0 (2 ^ log2 - 1) (head_length tag.key + tag.size + 3 * (2 ^ log2 - 1))) ≡ Ok ps → bytes_at bytes ps ≡ drop (parts_start tag log2) bytes
+    where_sized true h = cc
+    where_sized false h = joined bytes (head_length tag.key + tag.size) 0 (2 ^ log2 - 1) _ ps h
+
+-- the last partition ends where the bytes end
+pub last_ends : (at : List (ℕ × ℕ)) (count place size end : ℕ) → 1 ≤ count → count - 1 < length at → size ≡ end - place → place ≤ end
+    → (get_or (set at (count - 1) (place, size)) (count - 1) (0, 0)).0 + (get_or (set at (count - 1) (place, size)) (count - 1) (0, 0)).1 ≡ end
+last_ends at count place size end some long is le =
+    let P : ℕ × ℕ → Type 0 = λ x. x.0 + x.1 ≡ end in
+    subst P (sym (get_or-set_same at (count - 1) (place, size) (0, 0) long)) (omega (arith, is, le))
+
+pub none_left : (at : List (ℕ × ℕ)) (count place size : ℕ) → 1 ≤ count → drop count at ≡ drop count (replicate 8 (0, 0)) → drop count (set at (count - 1) (place, size)) ≡ replicate (8 - count) (0, 0)
+none_left at count place size some h = drop-set-lt count at (count - 1) (place, size) (omega arith) ∙ (h ∙ drop-replicate count 8 (0, 0))

@@ -1,5 +1,5 @@
 -- The uncompressed bytes at the head of a frame, and where its partitions lie. Sections are those of RFC 6386.
-use Rattle.std.specs.Prelude.{ℕ, suc, zero, ◌+◌, ◌-◌, ◌*◌, ◌/◌, ◌%◌, ◌^◌, ◌<◌, ◌≤◌, List, [], ◌∷◌, Bool, true, false, not, ◌&&◌, ◌||◌, ◌==◌, nat_lt, if◌then◌else◌, take, drop, length, slice_index, slice_index_or, Result, Ok, Err}
+use Rattle.std.specs.Prelude.{ℕ, suc, zero, ◌+◌, ◌-◌, ◌*◌, ◌/◌, ◌%◌, ◌^◌, ◌<◌, ◌≤◌, List, [], ◌∷◌, ◌++◌, Bool, true, false, not, ◌&&◌, ◌||◌, ◌==◌, nat_lt, if◌then◌else◌, take, drop, length, slice_index, slice_index_or, Result, Ok, Err}
 use Rattle.sal_base.specs.declared.coding.Fault.{Fault}
 use Rattle.sal_base.specs.declared.coding.Fault.TheVariants.{Short, BadVersion, BadStart, ZeroSize, TooLarge, FirstPart, Partition}
 use Rattle.sal_header.specs.declared.tag.Tag.{Tag}
@@ -75,3 +75,12 @@ parts_of bytes tag log2 =
 -- the first n of these places and lengths lie before the end
 abbrev pub AreInside : ℕ → List (ℕ × ℕ) → ℕ → Type 0
 AreInside end ps n = (k : ℕ) → k < n → (slice_index_or ps k (0, 0)).0 + (slice_index_or ps k (0, 0)).1 ≤ end
+
+-- the bytes at these places and lengths, one after the other
+abbrev pub bytes_at : List ℕ → List (ℕ × ℕ) → List ℕ
+bytes_at bytes [] = []
+bytes_at bytes (p ∷ ps) = take p.1 (drop p.0 bytes) ++ bytes_at bytes ps
+
+-- where the first token partition begins: after the first partition and the table of sizes (9.5)
+abbrev pub parts_start : Tag → ℕ → ℕ
+parts_start tag log2 = head_length tag.key + tag.size + 3 * (2 ^ log2 - 1)

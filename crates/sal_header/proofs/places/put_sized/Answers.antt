@@ -1,14 +1,15 @@
-use Rattle.std.proofs.Common.{arith, ◌∙◌, ◌+◌, ◌≤◌, length}
-use Rattle.std.proofs.lemmas.List.{length-set}
+use Rattle.std.proofs.Common.{arith, refl, ◌∙◌, ◌+◌, ◌≤◌, length}
+use Rattle.std.proofs.lemmas.List.{length-set, drop-set-lt}
 use Rattle.sal_header.proofs.Placing.{next_placed, placed_past, placed_last, placed_start, inside_none, inside_more}
 use Rattle.sal_header.proofs.places.put_sized.Goals as goal
 
 pub loop-k-init : goal.loop-k-init
-loop-k-init c = record { long = c.told-at; near = omega (arith, c.requires.near, c.requires.few); inside = λ le. (omega (arith, le, c.requires.table), inside_none (length c.args.bytes.now) c.args.at.now); parts = placed_start c.args.bytes.now c.args.table c.args.sized _ }
+loop-k-init c = record { long = c.told-at; others = λ n le. refl; near = omega (arith, c.requires.near, c.requires.few); inside = λ le. (omega (arith, le, c.requires.table), inside_none (length c.args.bytes.now) c.args.at.now); parts = placed_start c.args.bytes.now c.args.table c.args.sized _ }
 
 pub loop-k-preserved : goal.loop-k-preserved
 loop-k-preserved c = record {
   long = length-set c.loop-k.at c.loop-k.k _ ∙ c.loop-k.invariant.long;
+  others = λ n le. drop-set-lt n c.loop-k.at c.loop-k.k _ (omega (arith, le, c.loop-k-test.true)) ∙ c.loop-k.invariant.others n le;
   near = omega (arith, c.loop-k.invariant.near, c.three_bytes-size.ensures.small);
   inside = λ le.
       let before = c.loop-k.invariant.inside le in
