@@ -239,10 +239,10 @@ fit_both (x ∷ xs) ys a b = (a.0, fit_both xs ys a.1 b)
 byte_small : (p : ℕ) → byte p < 256
 byte_small p = omega arith
 
--- a number in the interval that pairs lead to is read as what they lead to
-read_in : {X : Type 0} (s : Syntax X) (xs : List (ℕ × Bool)) (x : X) (bytes : List ℕ) (i : Interval) → IsProper i → Follows s xs x → Contains (bits_of bytes) (steps i xs) → (read bytes i s).0 ≡ x
+-- a number in the interval that pairs lead to is read as what they lead to, and no further
+read_in : {X : Type 0} (s : Syntax X) (xs : List (ℕ × Bool)) (x : X) (bytes : List ℕ) (i : Interval) → IsProper i → Follows s xs x → Contains (bits_of bytes) (steps i xs) → read bytes i s ≡ (x, steps i xs)
 unfolding Follows read
-read_in (Done z) [] x bytes i proper h c = h
+read_in {X} (Done z) [] x bytes i proper h c = ap (λ (v : X). let y : X × Interval = (v, i) in y) h
 read_in (Done z) (q ∷ qs) x bytes i proper h c = absurd h
 read_in (Bit p s) [] x bytes i proper h c = absurd h
 read_in {X} (Bit p s) (q ∷ qs) x bytes i proper h c =
@@ -251,15 +251,16 @@ read_in {X} (Bit p s) (q ∷ qs) x bytes i proper h c =
     let later = read_in (s q.1) qs x bytes (next i q.0 q.1) after h.1 c in
     let inside = contains_before bytes qs (next i q.0 q.1) after (follows_fit (s q.1) qs x h.1) c in
     let here = contains_narrow bytes i q.0 q.1 proper fit (contains_next bytes i q.0 q.1 inside) in
-    let P : ℕ → Type 0 = λ n. (read bytes (next i n q.1) (s q.1)).0 ≡ x in
-    let a : (read bytes (next i (byte p) q.1) (s q.1)).0 ≡ x = subst P h.0 later in
+    let whole : X × Interval = (x, steps (next i q.0 q.1) qs) in
+    let P : ℕ → Type 0 = λ n. read bytes (next i n q.1) (s q.1) ≡ whole in
+    let a : read bytes (next i (byte p) q.1) (s q.1) ≡ whole = subst P h.0 later in
     let e : bit_at bytes i (byte p) ≡ q.1 = ap (λ n. bit_at bytes i n) (sym h.0) ∙ here.0 in
-    let Q : Bool → Type 0 = λ b. (read bytes (next i (byte p) b) (s b)).0 ≡ x in
+    let Q : Bool → Type 0 = λ b. read bytes (next i (byte p) b) (s b) ≡ whole in
     subst Q (sym e) a
 
 -- what was written among other bits is read where it was written
 read_among : {X : Type 0} (s : Syntax X) (xs : List (ℕ × Bool)) (x : X) (before more : List (ℕ × Bool)) → Follows s xs x → AreFit before → AreFit more
-    → (read (written (steps (steps (steps start before) xs) more)) (steps start before) s).0 ≡ x
+    → read (written (steps (steps (steps start before) xs) more)) (steps start before) s ≡ (x, steps (steps start before) xs)
 read_among s xs x before more h a b =
     let fit = follows_fit s xs x h in
     let at = steps start before in
@@ -271,11 +272,11 @@ read_among s xs x before more h a b =
     let inside : Contains (bits_of bytes) (steps (steps at xs) more) = subst P same (contains_written (before ++ (xs ++ more)) (fit_both before (xs ++ more) a (fit_both xs more fit b))) in
     read_in s xs x bytes at proper h (contains_before bytes more (steps at xs) (proper_after xs at proper fit) b inside)
 
--- a header among other bits is read where it was written
+-- a header among other bits is read where it was written, up to where it ends
 pub header_read : (kept : Kept) (h : Header) (before more : List (ℕ × Bool)) (i j : Interval) → IsWritable kept h → AreFit before → AreFit more → i ≡ steps start before → j ≡ steps i (header_pairs h)
-    → (read (written (steps j more)) i (header_of h.key h.shown kept)).0 ≡ h
+    → read (written (steps j more)) i (header_of h.key h.shown kept) ≡ (h, j)
 header_read kept h before more i j w a b e f =
     let s = header_of h.key h.shown kept in
-    let P : Interval → Type 0 = λ k. (read (written (steps (steps k (header_pairs h)) more)) k s).0 ≡ h in
-    let Q : Interval → Type 0 = λ k. (read (written (steps k more)) i s).0 ≡ h in
+    let P : Interval → Type 0 = λ k. read (written (steps (steps k (header_pairs h)) more)) k s ≡ (h, steps k (header_pairs h)) in
+    let Q : Interval → Type 0 = λ k. read (written (steps k more)) i s ≡ (h, k) in
     subst Q (sym f) (subst P (sym e) (read_among s (header_pairs h) h before more (header_again kept h w) a b))

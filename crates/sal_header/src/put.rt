@@ -1,9 +1,9 @@
 //! Single fields of a header, written as their bits.
 
-ghost use Rattle.std.specs.Prelude.{◌≡◌, ◌<◌, ◌≤◌, ◌^◌, ◌/◌, ℕ, ℤ, Option, length, unsigned_abs, OnOk};
+ghost use Rattle.std.specs.Prelude.{◌≡◌, ◌<◌, ◌≤◌, ◌^◌, ◌/◌, ℕ, ℤ, Option, length, unsigned_abs, OnOk, OnErr};
 ghost use Rattle.sal_bool.specs.Written.{steps};
 ghost use Rattle.sal_bool.specs.Pairs.{pair, flag_pairs, literal_pairs, signed_pairs, flagged_pairs, optional_pairs};
-ghost use Rattle.sal_header.specs.Written.{pairs_when, all_pairs, map_pairs, delta_pairs, vector_pairs, coefficients_pairs, vectors_pairs};
+ghost use Rattle.sal_header.specs.Written.{PutSome, pairs_when, all_pairs, map_pairs, delta_pairs, vector_pairs, coefficients_pairs, vectors_pairs};
 
 use sal_base::Memory;
 use sal_bool::Encoder;
@@ -11,14 +11,16 @@ use sal_tables::{update_coefficients, update_vectors};
 
 // A flag.
 pub(crate) fn put_flag(encoder: &mut Encoder, flag: bool) -> Result<(), Memory>
-    ensures { OnOk result (encoder.new ≡ steps encoder.old (flag_pairs flag)) }
+    ensures all { OnOk result (encoder.new ≡ steps encoder.old (flag_pairs flag)) }
+    ensures some { OnErr result (PutSome encoder.old (flag_pairs flag) encoder.new) }
 {
     encoder.put(flag, 128)
 }
 
 // A flag where there is one.
 pub(crate) fn put_flag_when(encoder: &mut Encoder, there: bool, flag: bool) -> Result<(), Memory>
-    ensures { OnOk result (encoder.new ≡ steps encoder.old (pairs_when there (flag_pairs flag))) }
+    ensures all { OnOk result (encoder.new ≡ steps encoder.old (pairs_when there (flag_pairs flag))) }
+    ensures some { OnErr result (PutSome encoder.old (pairs_when there (flag_pairs flag)) encoder.new) }
 {
     if there {
         put_flag(encoder, flag)
@@ -30,7 +32,8 @@ pub(crate) fn put_flag_when(encoder: &mut Encoder, there: bool, flag: bool) -> R
 // The lowest n bits of a number, highest first.
 pub(crate) fn put_literal(encoder: &mut Encoder, n: u32, x: u8) -> Result<(), Memory>
     requires { n ≤ 8 }
-    ensures { OnOk result (encoder.new ≡ steps encoder.old (literal_pairs n x)) }
+    ensures all { OnOk result (encoder.new ≡ steps encoder.old (literal_pairs n x)) }
+    ensures some { OnErr result (PutSome encoder.old (literal_pairs n x) encoder.new) }
 {
     for i in 0..n {
         encoder.put((x >> (n - 1 - i)) % 2 >= 1, 128)?;
@@ -46,7 +49,8 @@ pub(crate) fn put_literal_when(
     x: u8,
 ) -> Result<(), Memory>
     requires { n ≤ 8 }
-    ensures { OnOk result (encoder.new ≡ steps encoder.old (pairs_when there (literal_pairs n x))) }
+    ensures all { OnOk result (encoder.new ≡ steps encoder.old (pairs_when there (literal_pairs n x))) }
+    ensures some { OnErr result (PutSome encoder.old (pairs_when there (literal_pairs n x)) encoder.new) }
 {
     if there {
         put_literal(encoder, n, x)
@@ -58,7 +62,8 @@ pub(crate) fn put_literal_when(
 // A size of n bits, and a sign.
 pub(crate) fn put_signed(encoder: &mut Encoder, n: u32, z: i8) -> Result<(), Memory>
     requires { n ≤ 7 }
-    ensures { OnOk result (encoder.new ≡ steps encoder.old (signed_pairs n z)) }
+    ensures all { OnOk result (encoder.new ≡ steps encoder.old (signed_pairs n z)) }
+    ensures some { OnErr result (PutSome encoder.old (signed_pairs n z) encoder.new) }
 {
     put_literal(encoder, n, z.unsigned_abs())?;
     put_flag(encoder, z < 0)?;
@@ -68,7 +73,8 @@ pub(crate) fn put_signed(encoder: &mut Encoder, n: u32, z: i8) -> Result<(), Mem
 // A signed number, with its flag exactly where it isn't 0.
 pub(crate) fn put_flagged(encoder: &mut Encoder, n: u32, z: i8) -> Result<(), Memory>
     requires { n ≤ 7 }
-    ensures { OnOk result (encoder.new ≡ steps encoder.old (flagged_pairs n z)) }
+    ensures all { OnOk result (encoder.new ≡ steps encoder.old (flagged_pairs n z)) }
+    ensures some { OnErr result (PutSome encoder.old (flagged_pairs n z) encoder.new) }
 {
     if z == 0 {
         return put_flag(encoder, false);
@@ -85,7 +91,8 @@ pub(crate) fn put_four_flagged(
     values: &[i8; 4],
 ) -> Result<(), Memory>
     requires { n ≤ 7 }
-    ensures { OnOk result (encoder.new ≡ steps encoder.old (all_pairs (flagged_pairs n) values.now)) }
+    ensures all { OnOk result (encoder.new ≡ steps encoder.old (all_pairs (flagged_pairs n) values.now)) }
+    ensures some { OnErr result (PutSome encoder.old (all_pairs (flagged_pairs n) values.now) encoder.new) }
 {
     for i in 0..4usize {
         put_flagged(encoder, n, values[i])?;
@@ -95,7 +102,8 @@ pub(crate) fn put_four_flagged(
 
 // A delta of the filter, with its flag.
 fn put_delta(encoder: &mut Encoder, z: i8) -> Result<(), Memory>
-    ensures { OnOk result (encoder.new ≡ steps encoder.old (delta_pairs z)) }
+    ensures all { OnOk result (encoder.new ≡ steps encoder.old (delta_pairs z)) }
+    ensures some { OnErr result (PutSome encoder.old (delta_pairs z) encoder.new) }
 {
     put_flag(encoder, true)?;
     put_signed(encoder, 6, z)?;
@@ -104,7 +112,8 @@ fn put_delta(encoder: &mut Encoder, z: i8) -> Result<(), Memory>
 
 // Four deltas of the filter.
 pub(crate) fn put_four_deltas(encoder: &mut Encoder, values: &[i8; 4]) -> Result<(), Memory>
-    ensures { OnOk result (encoder.new ≡ steps encoder.old (all_pairs delta_pairs values.now)) }
+    ensures all { OnOk result (encoder.new ≡ steps encoder.old (all_pairs delta_pairs values.now)) }
+    ensures some { OnErr result (PutSome encoder.old (all_pairs delta_pairs values.now) encoder.new) }
 {
     for i in 0..4usize {
         put_delta(encoder, values[i])?;
@@ -114,7 +123,8 @@ pub(crate) fn put_four_deltas(encoder: &mut Encoder, values: &[i8; 4]) -> Result
 
 // A probability of the segment map, with its flag exactly where it isn't 255.
 fn put_map(encoder: &mut Encoder, x: u8) -> Result<(), Memory>
-    ensures { OnOk result (encoder.new ≡ steps encoder.old (map_pairs x)) }
+    ensures all { OnOk result (encoder.new ≡ steps encoder.old (map_pairs x)) }
+    ensures some { OnErr result (PutSome encoder.old (map_pairs x) encoder.new) }
 {
     if x == 255 {
         return put_flag(encoder, false);
@@ -126,7 +136,8 @@ fn put_map(encoder: &mut Encoder, x: u8) -> Result<(), Memory>
 
 // The probabilities of the segment map.
 pub(crate) fn put_three_map(encoder: &mut Encoder, values: &[u8; 3]) -> Result<(), Memory>
-    ensures { OnOk result (encoder.new ≡ steps encoder.old (all_pairs map_pairs values.now)) }
+    ensures all { OnOk result (encoder.new ≡ steps encoder.old (all_pairs map_pairs values.now)) }
+    ensures some { OnErr result (PutSome encoder.old (all_pairs map_pairs values.now) encoder.new) }
 {
     for i in 0..3usize {
         put_map(encoder, values[i])?;
@@ -136,7 +147,8 @@ pub(crate) fn put_three_map(encoder: &mut Encoder, values: &[u8; 3]) -> Result<(
 
 // Bytes, one after the other.
 fn put_bytes(encoder: &mut Encoder, values: &[u8]) -> Result<(), Memory>
-    ensures { OnOk result (encoder.new ≡ steps encoder.old (all_pairs (literal_pairs 8) values.now)) }
+    ensures all { OnOk result (encoder.new ≡ steps encoder.old (all_pairs (literal_pairs 8) values.now)) }
+    ensures some { OnErr result (PutSome encoder.old (all_pairs (literal_pairs 8) values.now) encoder.new) }
 {
     for i in 0..values.len() {
         put_literal(encoder, 8, values[i])?;
@@ -149,7 +161,8 @@ pub(crate) fn put_optional_four(
     encoder: &mut Encoder,
     values: &Option<[u8; 4]>,
 ) -> Result<(), Memory>
-    ensures { OnOk result (encoder.new ≡ steps encoder.old (optional_pairs 128 (all_pairs (literal_pairs 8)) values.now)) }
+    ensures all { OnOk result (encoder.new ≡ steps encoder.old (optional_pairs 128 (all_pairs (literal_pairs 8)) values.now)) }
+    ensures some { OnErr result (PutSome encoder.old (optional_pairs 128 (all_pairs (literal_pairs 8)) values.now) encoder.new) }
 {
     match values {
         Some(values) => {
@@ -166,7 +179,8 @@ pub(crate) fn put_optional_three(
     encoder: &mut Encoder,
     values: &Option<[u8; 3]>,
 ) -> Result<(), Memory>
-    ensures { OnOk result (encoder.new ≡ steps encoder.old (optional_pairs 128 (all_pairs (literal_pairs 8)) values.now)) }
+    ensures all { OnOk result (encoder.new ≡ steps encoder.old (optional_pairs 128 (all_pairs (literal_pairs 8)) values.now)) }
+    ensures some { OnErr result (PutSome encoder.old (optional_pairs 128 (all_pairs (literal_pairs 8)) values.now) encoder.new) }
 {
     match values {
         Some(values) => {
@@ -184,7 +198,8 @@ fn put_optional_byte(
     probability: u8,
     value: Option<u8>,
 ) -> Result<(), Memory>
-    ensures { OnOk result (encoder.new ≡ steps encoder.old (optional_pairs probability (literal_pairs 8) value)) }
+    ensures all { OnOk result (encoder.new ≡ steps encoder.old (optional_pairs probability (literal_pairs 8) value)) }
+    ensures some { OnErr result (PutSome encoder.old (optional_pairs probability (literal_pairs 8) value) encoder.new) }
 {
     match value {
         Some(x) => {
@@ -202,7 +217,8 @@ fn put_optional_vector(
     probability: u8,
     value: Option<u8>,
 ) -> Result<(), Memory>
-    ensures { OnOk result (encoder.new ≡ steps encoder.old (optional_pairs probability vector_pairs value)) }
+    ensures all { OnOk result (encoder.new ≡ steps encoder.old (optional_pairs probability vector_pairs value)) }
+    ensures some { OnErr result (PutSome encoder.old (optional_pairs probability vector_pairs value) encoder.new) }
 {
     match value {
         Some(x) => {
@@ -219,7 +235,8 @@ pub(crate) fn put_coefficients(
     encoder: &mut Encoder,
     updates: &[Option<u8>; 1056],
 ) -> Result<(), Memory>
-    ensures { OnOk result (encoder.new ≡ steps encoder.old (coefficients_pairs updates.now)) }
+    ensures all { OnOk result (encoder.new ≡ steps encoder.old (coefficients_pairs updates.now)) }
+    ensures some { OnErr result (PutSome encoder.old (coefficients_pairs updates.now) encoder.new) }
 {
     let probabilities = update_coefficients();
     for i in 0..1056usize {
@@ -230,7 +247,8 @@ pub(crate) fn put_coefficients(
 
 // New vector probabilities, 19 of the row and then 19 of the column.
 pub(crate) fn put_vectors(encoder: &mut Encoder, updates: &[Option<u8>; 38]) -> Result<(), Memory>
-    ensures { OnOk result (encoder.new ≡ steps encoder.old (vectors_pairs updates.now)) }
+    ensures all { OnOk result (encoder.new ≡ steps encoder.old (vectors_pairs updates.now)) }
+    ensures some { OnErr result (PutSome encoder.old (vectors_pairs updates.now) encoder.new) }
 {
     let probabilities = update_vectors();
     for i in 0..38usize {

@@ -1,12 +1,12 @@
 //! The parts of a header, each written as its bits in the order of RFC 6386, section 19.2.
 
-ghost use Rattle.std.specs.Prelude.{◌≡◌, ℕ, List, Bool, not, OnOk};
+ghost use Rattle.std.specs.Prelude.{◌≡◌, ℕ, List, Bool, not, OnOk, OnErr};
 ghost use Rattle.sal_bool.specs.Bits.{start};
 ghost use Rattle.sal_bool.specs.Syntax.{read, Follows};
 ghost use Rattle.sal_bool.specs.Written.{steps, written, AreFit};
 ghost use Rattle.sal_header.specs.declared.header.Kept.{Kept};
 ghost use Rattle.sal_header.specs.Headers.{header_of};
-ghost use Rattle.sal_header.specs.Written.{segments_of, filtering_of, quantisers_of, refreshing_of, inter_modes_of, modes_of, pairs_when, all_pairs, map_pairs, data_pairs, segments_pairs, deltas_pairs, filtering_pairs, quantisers_pairs, inter_refreshing_pairs, refreshing_pairs, inter_modes_pairs, modes_pairs, header_pairs, IsWritable};
+ghost use Rattle.sal_header.specs.Written.{PutSome, segments_of, filtering_of, quantisers_of, refreshing_of, inter_modes_of, modes_of, pairs_when, all_pairs, map_pairs, data_pairs, segments_pairs, deltas_pairs, filtering_pairs, quantisers_pairs, inter_refreshing_pairs, refreshing_pairs, inter_modes_pairs, modes_pairs, header_pairs, IsWritable};
 
 use crate::header::Header;
 use crate::parts::{Deltas, Filtering, InterModes, Quantisers, Refreshing, SegmentData, Segments};
@@ -19,12 +19,15 @@ use sal_base::Memory;
 use sal_bool::Encoder;
 
 /// Writes a header whose fields are in range; one that isn't written has the value that it is read with over what some
-/// state keeps. After want of memory a part of it may have been written.
+/// state keeps. It is read back with any bits before it and after it, and reading stands then where writing stood. After want of
+/// memory a front of its bits was written, and not the last of them.
 pub fn write_header(encoder: &mut Encoder, header: &Header) -> Result<(), Memory>
     requires { (kept : Kept) × IsWritable kept header.now }
     ensures pairs { OnOk result (encoder.new ≡ steps encoder.old (header_pairs header.now)) }
+    ensures some { OnErr result (PutSome encoder.old (header_pairs header.now) encoder.new) }
     ensures follows { OnOk result ((kept : Kept) → IsWritable kept header.now → Follows (header_of header.now.key header.now.shown kept) (header_pairs header.now) header.now) }
     ensures read_back { OnOk result ((before more : List (ℕ × Bool)) → AreFit before → AreFit more → encoder.old ≡ steps start before → (kept : Kept) → IsWritable kept header.now → (read (written (steps encoder.new more)) encoder.old (header_of header.now.key header.now.shown kept)).0 ≡ header.now) }
+    ensures read_to { OnOk result ((before more : List (ℕ × Bool)) → AreFit before → AreFit more → encoder.old ≡ steps start before → (kept : Kept) → IsWritable kept header.now → (read (written (steps encoder.new more)) encoder.old (header_of header.now.key header.now.shown kept)).1 ≡ encoder.new) }
 {
     put_flag_when(encoder, header.key, header.colour)?;
     put_flag_when(encoder, header.key, header.clamping)?;
@@ -118,7 +121,8 @@ fn inter_modes_of(header: &Header) -> InterModes
 
 // Segments (9.3).
 fn put_segments(encoder: &mut Encoder, segments: &Segments) -> Result<(), Memory>
-    ensures { OnOk result (encoder.new ≡ steps encoder.old (segments_pairs segments.now)) }
+    ensures all { OnOk result (encoder.new ≡ steps encoder.old (segments_pairs segments.now)) }
+    ensures some { OnErr result (PutSome encoder.old (segments_pairs segments.now) encoder.new) }
 {
     put_flag(encoder, segments.on)?;
     put_flag_when(encoder, segments.on, segments.update_map)?;
@@ -129,7 +133,8 @@ fn put_segments(encoder: &mut Encoder, segments: &Segments) -> Result<(), Memory
 }
 
 fn put_data_when(encoder: &mut Encoder, there: bool, values: &SegmentData) -> Result<(), Memory>
-    ensures { OnOk result (encoder.new ≡ steps encoder.old (pairs_when there (data_pairs values.now))) }
+    ensures all { OnOk result (encoder.new ≡ steps encoder.old (pairs_when there (data_pairs values.now))) }
+    ensures some { OnErr result (PutSome encoder.old (pairs_when there (data_pairs values.now)) encoder.new) }
 {
     if there {
         put_data(encoder, values)
@@ -139,7 +144,8 @@ fn put_data_when(encoder: &mut Encoder, there: bool, values: &SegmentData) -> Re
 }
 
 fn put_data(encoder: &mut Encoder, values: &SegmentData) -> Result<(), Memory>
-    ensures { OnOk result (encoder.new ≡ steps encoder.old (data_pairs values.now)) }
+    ensures all { OnOk result (encoder.new ≡ steps encoder.old (data_pairs values.now)) }
+    ensures some { OnErr result (PutSome encoder.old (data_pairs values.now) encoder.new) }
 {
     put_flag(encoder, values.absolute)?;
     put_four_flagged(encoder, 7, &values.quantisers)?;
@@ -148,7 +154,8 @@ fn put_data(encoder: &mut Encoder, values: &SegmentData) -> Result<(), Memory>
 }
 
 fn put_map_when(encoder: &mut Encoder, there: bool, map: &[u8; 3]) -> Result<(), Memory>
-    ensures { OnOk result (encoder.new ≡ steps encoder.old (pairs_when there (all_pairs map_pairs map.now))) }
+    ensures all { OnOk result (encoder.new ≡ steps encoder.old (pairs_when there (all_pairs map_pairs map.now))) }
+    ensures some { OnErr result (PutSome encoder.old (pairs_when there (all_pairs map_pairs map.now)) encoder.new) }
 {
     if there {
         put_three_map(encoder, map)
@@ -159,7 +166,8 @@ fn put_map_when(encoder: &mut Encoder, there: bool, map: &[u8; 3]) -> Result<(),
 
 // The loop filter (9.4).
 fn put_filtering(encoder: &mut Encoder, filtering: &Filtering) -> Result<(), Memory>
-    ensures { OnOk result (encoder.new ≡ steps encoder.old (filtering_pairs filtering.now)) }
+    ensures all { OnOk result (encoder.new ≡ steps encoder.old (filtering_pairs filtering.now)) }
+    ensures some { OnErr result (PutSome encoder.old (filtering_pairs filtering.now) encoder.new) }
 {
     put_flag(encoder, filtering.simple)?;
     put_literal(encoder, 6, filtering.level)?;
@@ -171,7 +179,8 @@ fn put_filtering(encoder: &mut Encoder, filtering: &Filtering) -> Result<(), Mem
 }
 
 fn put_deltas_when(encoder: &mut Encoder, there: bool, deltas: &Deltas) -> Result<(), Memory>
-    ensures { OnOk result (encoder.new ≡ steps encoder.old (pairs_when there (deltas_pairs deltas.now))) }
+    ensures all { OnOk result (encoder.new ≡ steps encoder.old (pairs_when there (deltas_pairs deltas.now))) }
+    ensures some { OnErr result (PutSome encoder.old (pairs_when there (deltas_pairs deltas.now)) encoder.new) }
 {
     if there {
         put_deltas(encoder, deltas)
@@ -181,7 +190,8 @@ fn put_deltas_when(encoder: &mut Encoder, there: bool, deltas: &Deltas) -> Resul
 }
 
 fn put_deltas(encoder: &mut Encoder, deltas: &Deltas) -> Result<(), Memory>
-    ensures { OnOk result (encoder.new ≡ steps encoder.old (deltas_pairs deltas.now)) }
+    ensures all { OnOk result (encoder.new ≡ steps encoder.old (deltas_pairs deltas.now)) }
+    ensures some { OnErr result (PutSome encoder.old (deltas_pairs deltas.now) encoder.new) }
 {
     put_four_deltas(encoder, &deltas.references)?;
     put_four_deltas(encoder, &deltas.modes)?;
@@ -190,7 +200,8 @@ fn put_deltas(encoder: &mut Encoder, deltas: &Deltas) -> Result<(), Memory>
 
 // The quantiser's index and its deltas (9.6).
 fn put_quantisers(encoder: &mut Encoder, quantisers: &Quantisers) -> Result<(), Memory>
-    ensures { OnOk result (encoder.new ≡ steps encoder.old (quantisers_pairs quantisers.now)) }
+    ensures all { OnOk result (encoder.new ≡ steps encoder.old (quantisers_pairs quantisers.now)) }
+    ensures some { OnErr result (PutSome encoder.old (quantisers_pairs quantisers.now) encoder.new) }
 {
     put_literal(encoder, 7, quantisers.y_ac)?;
     put_flagged(encoder, 4, quantisers.y_dc)?;
@@ -203,7 +214,8 @@ fn put_quantisers(encoder: &mut Encoder, quantisers: &Quantisers) -> Result<(), 
 
 // Which references and probabilities the frame leaves (9.7, 9.10 and 9.11).
 fn put_refreshing(encoder: &mut Encoder, key: bool, refreshing: &Refreshing) -> Result<(), Memory>
-    ensures { OnOk result (encoder.new ≡ steps encoder.old (refreshing_pairs key refreshing.now)) }
+    ensures all { OnOk result (encoder.new ≡ steps encoder.old (refreshing_pairs key refreshing.now)) }
+    ensures some { OnErr result (PutSome encoder.old (refreshing_pairs key refreshing.now) encoder.new) }
 {
     if key {
         put_flag(encoder, refreshing.entropy)
@@ -213,7 +225,8 @@ fn put_refreshing(encoder: &mut Encoder, key: bool, refreshing: &Refreshing) -> 
 }
 
 fn put_inter_refreshing(encoder: &mut Encoder, refreshing: &Refreshing) -> Result<(), Memory>
-    ensures { OnOk result (encoder.new ≡ steps encoder.old (inter_refreshing_pairs refreshing.now)) }
+    ensures all { OnOk result (encoder.new ≡ steps encoder.old (inter_refreshing_pairs refreshing.now)) }
+    ensures some { OnErr result (PutSome encoder.old (inter_refreshing_pairs refreshing.now) encoder.new) }
 {
     put_flag(encoder, refreshing.golden)?;
     put_flag(encoder, refreshing.alt)?;
@@ -228,7 +241,8 @@ fn put_inter_refreshing(encoder: &mut Encoder, refreshing: &Refreshing) -> Resul
 
 // The probabilities of macroblocks' modes (9.10 and 9.11).
 fn put_modes(encoder: &mut Encoder, header: &Header) -> Result<(), Memory>
-    ensures { OnOk result (encoder.new ≡ steps encoder.old (modes_pairs header.now.key (modes_of header.now))) }
+    ensures all { OnOk result (encoder.new ≡ steps encoder.old (modes_pairs header.now.key (modes_of header.now))) }
+    ensures some { OnErr result (PutSome encoder.old (modes_pairs header.now.key (modes_of header.now)) encoder.new) }
 {
     put_flag(encoder, header.skips)?;
     put_literal_when(encoder, header.skips, 8, header.prob_skip)?;
@@ -241,7 +255,8 @@ fn put_inter_modes_when(
     there: bool,
     modes: &InterModes,
 ) -> Result<(), Memory>
-    ensures { OnOk result (encoder.new ≡ steps encoder.old (pairs_when there (inter_modes_pairs modes.now))) }
+    ensures all { OnOk result (encoder.new ≡ steps encoder.old (pairs_when there (inter_modes_pairs modes.now))) }
+    ensures some { OnErr result (PutSome encoder.old (pairs_when there (inter_modes_pairs modes.now)) encoder.new) }
 {
     if there {
         put_inter_modes(encoder, modes)
@@ -252,7 +267,8 @@ fn put_inter_modes_when(
 
 // The probabilities of an inter frame's modes and vectors (9.10, 16.2 and 17.2).
 fn put_inter_modes(encoder: &mut Encoder, modes: &InterModes) -> Result<(), Memory>
-    ensures { OnOk result (encoder.new ≡ steps encoder.old (inter_modes_pairs modes.now)) }
+    ensures all { OnOk result (encoder.new ≡ steps encoder.old (inter_modes_pairs modes.now)) }
+    ensures some { OnErr result (PutSome encoder.old (inter_modes_pairs modes.now) encoder.new) }
 {
     put_literal(encoder, 8, modes.intra)?;
     put_literal(encoder, 8, modes.last)?;

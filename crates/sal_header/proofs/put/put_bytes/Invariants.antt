@@ -1,8 +1,8 @@
-use Rattle.std.proofs.Common.{◌≡◌, drop}
-use Rattle.sal_bool.specs.Written.{steps}
+use Rattle.std.proofs.Common.{drop}
 use Rattle.sal_bool.specs.Pairs.{literal_pairs}
 use Rattle.sal_header.specs.Written.{all_pairs}
+use Rattle.sal_header.proofs.Putting.{Left}
 use Rattle.sal_header.proofs.put.put_bytes.Given as goal
 
 abbrev pub invariant-loop-i : goal.invariant-loop-i
-invariant-loop-i l = steps l.encoder (all_pairs (literal_pairs 8) (drop l.i l.values)) ≡ steps l.fn.encoder (all_pairs (literal_pairs 8) l.fn.values)
+invariant-loop-i l = Left l.encoder (all_pairs (literal_pairs 8) (drop l.i l.values)) l.fn.encoder (all_pairs (literal_pairs 8) l.fn.values)

@@ -1,8 +1,8 @@
-use Rattle.std.proofs.Common.{◌≡◌, drop}
-use Rattle.sal_bool.specs.Written.{steps}
+use Rattle.std.proofs.Common.{drop}
 use Rattle.sal_bool.specs.Pairs.{flagged_pairs}
 use Rattle.sal_header.specs.Written.{all_pairs}
+use Rattle.sal_header.proofs.Putting.{Left}
 use Rattle.sal_header.proofs.put.put_four_flagged.Given as goal
 
 abbrev pub invariant-loop-i : goal.invariant-loop-i
-invariant-loop-i l = steps l.encoder (all_pairs (flagged_pairs l.n) (drop l.i l.values)) ≡ steps l.fn.encoder (all_pairs (flagged_pairs l.n) l.fn.values)
+invariant-loop-i l = Left l.encoder (all_pairs (flagged_pairs l.n) (drop l.i l.values)) l.fn.encoder (all_pairs (flagged_pairs l.n) l.fn.values)

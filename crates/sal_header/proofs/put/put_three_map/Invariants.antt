@@ -1,7 +1,7 @@
-use Rattle.std.proofs.Common.{◌≡◌, drop}
-use Rattle.sal_bool.specs.Written.{steps}
+use Rattle.std.proofs.Common.{drop}
 use Rattle.sal_header.specs.Written.{all_pairs, map_pairs}
+use Rattle.sal_header.proofs.Putting.{Left}
 use Rattle.sal_header.proofs.put.put_three_map.Given as goal
 
 abbrev pub invariant-loop-i : goal.invariant-loop-i
-invariant-loop-i l = steps l.encoder (all_pairs map_pairs (drop l.i l.values)) ≡ steps l.fn.encoder (all_pairs map_pairs l.fn.values)
+invariant-loop-i l = Left l.encoder (all_pairs map_pairs (drop l.i l.values)) l.fn.encoder (all_pairs map_pairs l.fn.values)

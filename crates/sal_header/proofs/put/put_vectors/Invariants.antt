@@ -1,8 +1,8 @@
-use Rattle.std.proofs.Common.{◌≡◌, drop}
-use Rattle.sal_bool.specs.Written.{steps}
+use Rattle.std.proofs.Common.{drop}
 use Rattle.sal_bool.specs.Pairs.{each_pairs, optional_pairs}
 use Rattle.sal_header.specs.Written.{vector_pairs}
+use Rattle.sal_header.proofs.Putting.{Left}
 use Rattle.sal_header.proofs.put.put_vectors.Given as goal
 
 abbrev pub invariant-loop-i : goal.invariant-loop-i
-invariant-loop-i l = steps l.encoder (each_pairs (λ p u. optional_pairs p (vector_pairs) u) (drop l.i l.probabilities) (drop l.i l.updates)) ≡ steps l.fn.encoder (each_pairs (λ p u. optional_pairs p (vector_pairs) u) l.probabilities l.fn.updates)
+invariant-loop-i l = Left l.encoder (each_pairs (λ p u. optional_pairs p vector_pairs u) (drop l.i l.probabilities) (drop l.i l.updates)) l.fn.encoder (each_pairs (λ p u. optional_pairs p vector_pairs u) l.probabilities l.fn.updates)
