@@ -1,5 +1,5 @@
 -- What reading a line does.
-use Rattle.std.specs.Prelude.{ℕ, ◌<◌, ◌≤◌, List, [], length, take, Option, IfSome, ◌≡◌}
+use Rattle.std.specs.Prelude.{ℕ, ◌<◌, ◌≤◌, List, [], ◌∷◌, ◌++◌, length, take, Option, IfSome, ◌≡◌}
 use Rattle.std.specs.Io.KnownBytes.{Consumes}
 use Rattle.sal_io.specs.declared.line.Line.{Line}
 use Rattle.sal_io.specs.declared.line.Line.TheVariants.{Whole, End, Broken, Failed}
@@ -17,10 +17,10 @@ pub record TakesPlain (old new : Option (List ℕ)) (buf : List ℕ) (count : �
   pub plain : NoNewline (take count buf)
   pub taken : Consumes old new (take count buf)
 
--- what is taken where no line is read: nothing at the end; a broken line fills the buffer or is all that was left; and
+-- what is taken: a whole line with its newline; nothing at the end; a broken line fills the buffer or is all that was left; and
 -- where the source fails, the bytes before that
 abbrev pub LineTakes : Option (List ℕ) → Option (List ℕ) → Line → List ℕ → Type 0
-LineTakes old new (Whole n) buf = Unit {0}
+LineTakes old new (Whole n) buf = Consumes old new (take n buf ++ 10 ∷ [])
 LineTakes old new End buf = Consumes old new []
 LineTakes old new Broken buf = (n : ℕ) × (n ≤ length buf) × TakesPlain old new buf n × (n < length buf → IfSome old (λ xs. xs ≡ take n buf))
 LineTakes old new Failed buf = (n : ℕ) × (n < length buf) × TakesPlain old new buf n

@@ -1,5 +1,5 @@
 -- A picture from its parts.
-use Rattle.std.proofs.Common.{◌≡◌, ◌≢◌, ℕ, false, List, [], length, Option, Some, None, IfSome, refl, sym, ap, ◌∙◌, subst, arith, length-append}
+use Rattle.std.proofs.Common.{◌≡◌, ◌≢◌, ℕ, ◌+◌, ◌*◌, false, List, [], length, Option, Some, None, IfSome, refl, sym, ap, ◌∙◌, subst, arith, length-append}
 use Rattle.std.specs.Prelude.{if◌then◌else◌, Result, decimal}
 use Rattle.sal_y4m.specs.Answers.{Writes}
 use Rattle.sal_y4m.specs.declared.fault.WriteFault.{WriteFault}
@@ -7,8 +7,8 @@ use Rattle.std.specs.Io.KnownBytes.{Consumes}
 use Rattle.std.specs.Str.{bytes_eq}
 use Rattle.sal_base.specs.declared.picture.Plane.{Plane}
 use Rattle.sal_base.specs.Picture.{half}
-use Rattle.sal_io.specs.Told.{ReadsAs, ◌>>=◌, block_at}
-use Rattle.sal_io.proofs.ToldLemmas.{block_read}
+use Rattle.sal_io.specs.Told.{TakesUpTo, ReadsAs, ◌>>=◌, block_at}
+use Rattle.sal_io.proofs.ToldLemmas.{block_read, takes_more, takes_within}
 use Rattle.sal_y4m.specs.declared.head.Head.{Head}
 use Rattle.sal_y4m.specs.Grammar.{mark, mark_at, plane_at, picture_at, header_line, head_text}
 
@@ -27,6 +27,27 @@ picture_read head (Some xs) (Some ys) (Some zs) (Some ts) (Some us) w h y u v sw
     let ru : plane_at (half head.width) (half head.height) zs ≡ Some (u, ts) = rw (← sw, ← sh) r in
     let rv : plane_at (half head.width) (half head.height) ts ≡ Some (v, us) = rw (← sw, ← sh) s in
     ap (λ o. o >>= from_y) p ∙ ap (λ o. o >>= from_u) q ∙ ap (λ o. o >>= from_v (y, zs)) ru ∙ ap (λ o. o >>= λ vv. Some (record { width = head.width; height = head.height; y = y; u = u; v = vv.0 }, vv.1)) rv
+
+-- ---- how much is taken of a picture, of so many samples of luma and, in each plane, of chroma
+
+pub takes_mark : (y c : ℕ) (a b : Option (List ℕ)) → TakesUpTo 6 a b → TakesUpTo (6 + (y + 2 * c)) a b
+takes_mark y c a b p = takes_within 6 (6 + (y + 2 * c)) a b (omega arith) p
+
+pub takes_luma : (y c : ℕ) (a b d : Option (List ℕ)) → TakesUpTo 6 a b → TakesUpTo y b d → TakesUpTo (6 + (y + 2 * c)) a d
+takes_luma y c a b d p q = takes_within (6 + y) (6 + (y + 2 * c)) a d (omega arith) (takes_more 6 y a b d p q)
+
+pub takes_chroma : (y w h half_w half_h : ℕ) (a b d e : Option (List ℕ)) → w ≡ half_w → h ≡ half_h
+    → TakesUpTo 6 a b → TakesUpTo y b d → TakesUpTo (w * h) d e → TakesUpTo (6 + (y + 2 * (half_w * half_h))) a e
+takes_chroma y w h half_w half_h a b d e sw sh p q r =
+    let same : w * h ≡ half_w * half_h = ap (λ (n : ℕ). n * h) sw ∙ ap (λ (n : ℕ). half_w * n) sh in
+    takes_within ((6 + y) + w * h) (6 + (y + 2 * (half_w * half_h))) a e (omega (arith, same)) (takes_more (6 + y) (w * h) a d e (takes_more 6 y a b d p q) r)
+
+pub takes_picture : (y w h half_w half_h : ℕ) (a b d e f : Option (List ℕ)) → w ≡ half_w → h ≡ half_h
+    → TakesUpTo 6 a b → TakesUpTo y b d → TakesUpTo (w * h) d e → TakesUpTo (w * h) e f → TakesUpTo (6 + (y + 2 * (half_w * half_h))) a f
+takes_picture y w h half_w half_h a b d e f sw sh p q r s =
+    let same : w * h ≡ half_w * half_h = ap (λ (n : ℕ). n * h) sw ∙ ap (λ (n : ℕ). half_w * n) sh in
+    takes_within (((6 + y) + w * h) + w * h) (6 + (y + 2 * (half_w * half_h))) a f (omega (arith, same))
+    (takes_more ((6 + y) + w * h) (w * h) a e f (takes_more (6 + y) (w * h) a d e (takes_more 6 y a b d p q) r) s)
 
 pub other_word : (a b : Option (List ℕ)) (word : List ℕ) → length word ≡ 6 → bytes_eq word mark ≡ false → Consumes a b word → IfSome a (λ xs. (xs ≢ []) × (mark_at xs ≡ None))
 other_word None b word len other p = tt

@@ -1,9 +1,10 @@
 //! The parts of a picture, read one after the other.
 
-ghost use Rattle.std.specs.Prelude.{is_some, ◌≡◌, ◌≢◌, ◌*◌, length, IfOk, IfSome, Err};
+ghost use Rattle.std.specs.Prelude.{is_some, ◌≡◌, ◌≢◌, ◌*◌, ◌+◌, length, IfOk, IfSome, Err};
 ghost use Rattle.sal_base.specs.Picture.{IsPlane, IsPicture};
 ghost use Rattle.sal_io.specs.Calls.{HasCause};
-ghost use Rattle.sal_y4m.specs.Grammar.{plane_at};
+ghost use Rattle.sal_io.specs.Told.{TakesUpTo};
+ghost use Rattle.sal_y4m.specs.Grammar.{plane_at, samples_of};
 ghost use Rattle.sal_y4m.specs.Answers.{Gives, NextGives, MarkGives, IsForm};
 
 use crate::fault::{Why, Y4mFault};
@@ -23,6 +24,7 @@ fn read_plane<S: Source>(
 ) -> Result<Plane, Y4mFault>
     requires room { length samples ≡ width * height }
     ensures told { Gives (plane_at width height) (S.left source.old) (S.left source.new) result }
+    ensures front { TakesUpTo (width * height) (S.left source.old) (S.left source.new) }
     ensures whole { IfOk result (IsPlane width height) }
     ensures place { IsForm result }
     ensures never { result ≢ Err Y4mFault.Memory }
@@ -54,6 +56,7 @@ enum Mark {
 
 fn read_mark<S: Source>(source: &mut S) -> Mark
     ensures told { MarkGives (S.left source.old) (S.left source.new) result }
+    ensures front { TakesUpTo 6 (S.left source.old) (S.left source.new) }
     ensures cause { HasCause Mark.Failed (S.faults source.old) (S.faults source.new) result }
     ensures name { S.name source.new ≡ S.name source.old }
     ensures had { S.had source.new ≡ S.had source.old }
@@ -79,6 +82,7 @@ pub fn read_picture<S: Source>(
     requires width { blank.width ≡ head.width }
     requires height { blank.height ≡ head.height }
     ensures told { NextGives head (S.left source.old) (S.left source.new) result }
+    ensures front { TakesUpTo (6 + samples_of head.width head.height) (S.left source.old) (S.left source.new) }
     ensures picture { IfOk result (λ found. IfSome found IsPicture) }
     ensures width { IfOk result (λ found. IfSome found (λ p. p.width ≡ head.width)) }
     ensures height { IfOk result (λ found. IfSome found (λ p. p.height ≡ head.height)) }

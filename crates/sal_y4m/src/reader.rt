@@ -1,10 +1,11 @@
 //! A reader of pictures.
 
-ghost use Rattle.std.specs.Prelude.{is_some, ◌≡◌, ◌≢◌, OnOk, OnErr, IfOk, IfSome, Err, None};
+ghost use Rattle.std.specs.Prelude.{is_some, ◌≡◌, ◌≢◌, ◌+◌, OnOk, OnErr, IfOk, IfSome, Err, None};
 ghost use Rattle.std.specs.Option.{ForSome, ForNone};
 ghost use Rattle.sal_base.specs.Picture.{IsPicture};
 ghost use Rattle.sal_io.specs.Calls.{HasCause};
-ghost use Rattle.sal_y4m.specs.Grammar.{IsNarrow, header_at};
+ghost use Rattle.sal_io.specs.Told.{TakesUpTo};
+ghost use Rattle.sal_y4m.specs.Grammar.{IsNarrow, header_at, samples_of};
 ghost use Rattle.sal_y4m.specs.Answers.{Gives, NextGives, OpenGives, HeaderUnread, IsForm, lasting};
 
 use crate::fault::Y4mFault;
@@ -25,6 +26,7 @@ pub struct Reader<S> {
 fn read_head<S: Source>(source: &mut S) -> Result<Head, Y4mFault>
     ensures told { Gives header_at (S.left source.old) (S.left source.new) result }
     ensures unread { result ≡ Err Y4mFault.ReadFault → HeaderUnread (S.left source.old) (S.left source.new) }
+    ensures front { TakesUpTo 256 (S.left source.old) (S.left source.new) }
     ensures narrow { IfOk result IsNarrow }
     ensures place { IsForm result }
     ensures never { result ≢ Err Y4mFault.Memory }
@@ -45,9 +47,10 @@ fn read_head<S: Source>(source: &mut S) -> Result<Head, Y4mFault>
 }
 
 impl<S> Reader<S> {
-    /// A reader that has read nothing yet.
+    /// A reader that has read nothing yet; its head is that of pictures of one sample.
     pub fn new(source: S) -> Self
         ensures source { result.source ≡ source }
+        ensures head { result.head ≡ record { width = 1; height = 1; rate = (30, 1) } }
         ensures fresh { result.kept ≡ None }
     {
         Reader {
@@ -77,12 +80,15 @@ impl<S> Reader<S> {
 }
 
 impl<S: Source> Reader<S> {
-    /// Reads the header line. It takes no memory and never lacks it.
+    /// Reads the header line. It takes no memory and never lacks it. Whatever it answers, it takes no more than the 256
+    /// bytes of the longest line.
+    #[tactic(auto, using(sal_io::proofs::ToldLemmas::takes_none))]
     pub fn open(&mut self) -> Result<(), Y4mFault>
         ensures again { ForSome self.old.kept (λ fault. result ≡ Err fault) }
         ensures rests { ForSome self.old.kept (λ fault. self.new ≡ self.old) }
         ensures told { ForNone self.old.kept (OpenGives (S.left self.old.source) (S.left self.new.source) result self.new.head) }
         ensures unread { ForNone self.old.kept (result ≡ Err Y4mFault.ReadFault → HeaderUnread (S.left self.old.source) (S.left self.new.source)) }
+        ensures front { TakesUpTo 256 (S.left self.old.source) (S.left self.new.source) }
         ensures place { ForNone self.old.kept (IsForm result) }
         ensures never { ForNone self.old.kept (result ≢ Err Y4mFault.Memory) }
         ensures cause { ForNone self.old.kept (HasCause (Err Y4mFault.ReadFault) (S.faults self.old.source) (S.faults self.new.source) result) }
@@ -109,11 +115,13 @@ impl<S: Source> Reader<S> {
     }
 
     /// Reads the next picture; None at the end, on a boundary between pictures. Where memory is lacking nothing is read,
-    /// and it may be asked again.
+    /// and it may be asked again. Whatever it answers, it takes no more than a picture's bytes.
+    #[tactic(auto, using(sal_io::proofs::ToldLemmas::takes_none))]
     pub fn next(&mut self, alloc: Global) -> Result<Option<Picture>, Y4mFault>
         ensures again { ForSome self.old.kept (λ fault. result ≡ Err fault) }
         ensures rests { ForSome self.old.kept (λ fault. self.new ≡ self.old) }
         ensures told { ForNone self.old.kept (NextGives self.old.head (S.left self.old.source) (S.left self.new.source) result) }
+        ensures front { TakesUpTo (6 + samples_of self.old.head.width self.old.head.height) (S.left self.old.source) (S.left self.new.source) }
         ensures place { ForNone self.old.kept (IsForm result) }
         ensures cause { ForNone self.old.kept (HasCause (Err Y4mFault.ReadFault) (S.faults self.old.source) (S.faults self.new.source) result) }
         ensures kept { ForNone self.old.kept (self.new.kept ≡ lasting result) }

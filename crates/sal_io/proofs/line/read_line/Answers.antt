@@ -55,3 +55,7 @@ returns-in-Failed-clause-taken g c =
 pub returns-clause-taken : goal.returns-clause-taken
 returns-clause-taken g c =
     (c.loop-i.i, omega arith, record { plain = c.loop-i.invariant.plain; taken = c.loop-i.invariant.taken }, λ few. absurd (omega (arith, few)))
+
+pub returns-then-byte-eq10-clause-taken : goal.returns-then-byte-eq10-clause-taken
+returns-then-byte-eq10-clause-taken g c =
+    one_more _ _ _ _ _ _ c.loop-i.invariant.taken c.fill.ensures.len c.if-byte-eq10.true c.in-Full.ensures.bytes
