@@ -32,16 +32,23 @@ pub enum Event<C: Codec> {
 /// What an event is answered.
 #[derive(Drop)]
 pub enum Answer<C: Codec> {
+    /// The sender's answer to a picture.
     Next(Next),
+    /// The job that is handed out, if one waited.
     Take(Option<Job<C>>),
+    /// The sender's answer to a report.
     Report(Reported),
     /// Nothing was sent.
     Choose(Chosen),
     /// The datagrams of this choice were sent.
     Sent(Choice),
+    /// The receiver's answer to a datagram.
     Down(Delivered),
+    /// The sender's answer to an acknowledgement.
     Up(HeardAck),
+    /// The frame that is handed out, if one waited.
     Ready(Option<Ready<C>>),
+    /// The receiver's answer to a decoding.
     Decoded(Done),
     /// The moment after the event.
     Moment(u64),
