@@ -5,6 +5,7 @@ use Rattle.std.proofs.lemmas.Int.{ints, int_max_is, int_min_is}
 use Rattle.sal_base.specs.declared.kinds.Vector.{Vector}
 use Rattle.sal_base.specs.declared.kinds.YMode.{YMode}
 use Rattle.sal_base.specs.declared.kinds.YMode.TheVariants.{DC, V, H, TM, B, NEAREST, NEAR, ZERO, NEW, SPLIT}
+use Rattle.sal_base.specs.declared.kinds.SubMode.{SubMode}
 use Rattle.sal_base.specs.declared.kinds.SubMode.TheVariants.{BDC}
 use Rattle.sal_bool.specs.Reading.{Reading}
 use Rattle.sal_bool.specs.Syntax.{Syntax, Done, run, one, when, leaf}
@@ -13,7 +14,7 @@ use Rattle.sal_tables.specs.Trees.{segment_entries, vector_mode_entries}
 use Rattle.sal_probs.specs.Probabilities.{Table}
 use Rattle.sal_header.specs.declared.header.Header.{Header}
 use Rattle.sal_macroblock.specs.Sizes.{Within}
-use Rattle.sal_macroblock.specs.Macroblocks.{vector, zero_vector, is_intra}
+use Rattle.sal_macroblock.specs.Macroblocks.{vector, vector_at, zero_vector, is_intra, is_split, implied}
 use Rattle.sal_macroblock.specs.declared.mode.RefKind.{RefKind}
 use Rattle.sal_macroblock.specs.declared.mode.MbMode.{MbMode}
 use Rattle.sal_modes.specs.declared.around.Bias.{Bias}
@@ -121,10 +122,31 @@ never_intra false alt = refl
 never_intra true false = refl
 never_intra true true = refl
 
-pub inter_fits : (later alt : Bool) (reference : RefKind) (l : ℕ) (y : YMode) (vectors : List Vector) → reference ≡ reference_of later alt → y ≡ vector_mode l → HasFittingModes (inter_of reference y vectors)
-inter_fits later alt reference l y vectors er ey =
-    record { segment = omega arith; luma = ap is_intra_mode ey ∙ (vector_not_intra l ∙ sym (ap is_intra er ∙ never_intra later alt)); chroma = refl }
+leaf_implies : (l : ℕ) → implied (vector_mode l) ≡ BDC
+leaf_implies zero = refl
+leaf_implies (suc zero) = refl
+leaf_implies (suc (suc zero)) = refl
+leaf_implies (suc (suc (suc zero))) = refl
+leaf_implies (suc (suc (suc (suc zero)))) = refl
+leaf_implies (suc (suc (suc (suc (suc l))))) = refl
+
+opposite : {X : Type 0} (b : Bool) → b ≡ false → b ≡ true → X
+opposite b e f = let no : ⊥ = cc in absurd no
+
+pub inter_fits : (later alt : Bool) (reference : RefKind) (l : ℕ) (y : YMode) (vectors : List Vector) → reference ≡ reference_of later alt → y ≡ vector_mode l
+    → (is_split y ≡ false → vectors ≡ replicate 16 (vector_at vectors 15)) → HasFittingModes (inter_of reference y vectors)
+inter_fits later alt reference l y vectors er ey whole =
+    let inter : is_intra reference ≡ false = ap is_intra er ∙ never_intra later alt in
+    record {
+      segment = omega arith;
+      luma = ap is_intra_mode ey ∙ (vector_not_intra l ∙ sym inter);
+      chroma = refl;
+      inter_chroma = λ e. refl;
+      sub = λ e. ap (λ (m : SubMode). replicate 16 m) (sym (ap implied ey ∙ leaf_implies l));
+      vectors = whole;
+      still = λ e. opposite (is_intra reference) inter e;
+    }
 
 -- a whole one in its segment
 pub whole_fits : (m : MbMode) (segment : ℕ) (skip : Bool) → segment ≤ 3 → HasFittingModes m → HasFittingModes (record m { segment = segment; skip = skip })
-whole_fits m segment skip le h = record { segment = le; luma = h.luma; chroma = h.chroma }
+whole_fits m segment skip le h = record { segment = le; luma = h.luma; chroma = h.chroma; inter_chroma = h.inter_chroma; sub = h.sub; vectors = h.vectors; still = h.still }

@@ -93,5 +93,9 @@ leaf_whole (suc (suc (suc zero))) lt = refl
 leaf_whole (suc (suc (suc (suc l)))) lt = absurd (omega arith)
 
 -- the modes of an intra macroblock fit
-pub intra_fits : (l m : ℕ) (y chroma : YMode) (subs : List SubMode) → y ≡ whole_mode l → chroma ≡ whole_mode m → m < 4 → HasFittingModes (intra_of y subs chroma)
-intra_fits l m y chroma subs ey ec lt = record { segment = omega arith; luma = ap is_intra_mode ey ∙ leaf_intra l; chroma = ap is_whole_mode ec ∙ leaf_whole m lt }
+pub intra_fits : (l m : ℕ) (y chroma : YMode) (subs : List SubMode) → y ≡ whole_mode l → chroma ≡ whole_mode m → m < 4 → (is_b y ≡ false → subs ≡ replicate 16 (implied y)) → HasFittingModes (intra_of y subs chroma)
+intra_fits l m y chroma subs ey ec lt whole =
+    record { segment = omega arith; luma = ap is_intra_mode ey ∙ leaf_intra l; chroma = ap is_whole_mode ec ∙ leaf_whole m lt; inter_chroma = λ e. absurd (never e); sub = whole; vectors = λ e. refl; still = λ e. refl }
+  where
+    never : true ≡ false → ⊥
+    never e = cc

@@ -13,7 +13,7 @@ use Rattle.sal_header.specs.declared.header.Header.{Header}
 use Rattle.sal_macroblock.specs.declared.mode.RefKind.{RefKind}
 use Rattle.sal_macroblock.specs.declared.mode.RefKind.TheVariants.{Last, Golden, Alt}
 use Rattle.sal_macroblock.specs.declared.mode.MbMode.{MbMode}
-use Rattle.sal_macroblock.specs.Macroblocks.{zero_vector, is_intra, is_b}
+use Rattle.sal_macroblock.specs.Macroblocks.{zero_vector, own_vector, is_intra, is_b, is_split, implied}
 use Rattle.sal_modes.specs.declared.around.Bias.{Bias}
 use Rattle.sal_modes.specs.declared.around.Near.{Near}
 use Rattle.sal_modes.specs.Vectors.{plus}
@@ -82,8 +82,14 @@ is_whole_mode _ = false
 abbrev pub is_intra_mode : YMode → Bool
 is_intra_mode y = is_b y || is_whole_mode y
 
--- what is true of each macroblock that is read: one of four segments, a Y mode that fits its reference, a whole chroma mode
+-- what is true of each macroblock that is read: one of four segments; a Y mode that fits its reference; a whole chroma mode, DC in
+-- an inter one; for each subblock the mode that its Y mode counts as, unless that is B; one vector for all blocks, unless it is in
+-- parts, and no motion in an intra one (8, 10, 11.3 and 16.3)
 pub record HasFittingModes (m : MbMode) : Type 0 where
   pub segment : m.segment ≤ 3
   pub luma : is_intra_mode m.y ≡ is_intra m.reference
   pub chroma : is_whole_mode m.chroma ≡ true
+  pub inter_chroma : is_intra m.reference ≡ false → m.chroma ≡ DC
+  pub sub : is_b m.y ≡ false → m.sub ≡ replicate 16 (implied m.y)
+  pub vectors : is_split m.y ≡ false → m.vectors ≡ replicate 16 (own_vector m)
+  pub still : is_intra m.reference ≡ true → m.vectors ≡ replicate 16 zero_vector

@@ -1,8 +1,9 @@
 //! Reads the modes and vectors of an inter macroblock (RFC 6386, sections 16.2 and 16.3).
 
-ghost use Rattle.std.specs.Prelude.{◌≡◌, ◌<◌, ◌≤◌, [], All, false, slice_index, slice_index_or};
+ghost use Rattle.std.specs.Prelude.{◌≡◌, ◌<◌, ◌≤◌, [], All, false, replicate, slice_index, slice_index_or};
 ghost use Rattle.sal_bool.specs.Syntax.{run, one, when};
 ghost use Rattle.sal_tables.specs.Tables.{vector_mode_probabilities_of};
+ghost use Rattle.sal_macroblock.specs.Macroblocks.{is_split, vector_at};
 ghost use Rattle.sal_macroblock.specs.Sizes.{Within};
 ghost use Rattle.sal_modes.specs.Vectors.{AreNear};
 ghost use Rattle.sal_modes.specs.Near.{bias_of, near_of};
@@ -125,6 +126,7 @@ fn vectors_of(
     requires row { Within 5120 near.now.best.row }
     requires column { Within 5120 near.now.best.column }
     ensures reads { run (vectors_of probs.now.vectors around.now near.now mode) decoder.old ≡ (result, decoder.new) }
+    ensures whole { is_split mode ≡ false → result ≡ replicate 16 (vector_at result 15) }
 {
     match mode {
         YMode::NEAREST => [near.nearest; 16],

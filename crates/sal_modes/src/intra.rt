@@ -1,7 +1,7 @@
 //! Reads the modes of an intra macroblock (RFC 6386, sections 11.2 to 11.4 and 16.2).
 
 ghost use Rattle.std.specs.Prelude.{◌≡◌, ◌<◌, ◌*◌, [], length, replicate};
-ghost use Rattle.std.specs.Prelude.{if◌then◌else◌, take, true};
+ghost use Rattle.std.specs.Prelude.{if◌then◌else◌, take, true, false};
 ghost use Rattle.sal_bool.specs.Syntax.{run, Done};
 ghost use Rattle.sal_macroblock.specs.Macroblocks.{is_b, is_intra, implied};
 ghost use Rattle.sal_modes.specs.Modes.{HasFittingModes};
@@ -151,6 +151,7 @@ fn read_chroma(decoder: &mut Decoder<'_>, key: bool, probs: &Probs) -> u8
 // The modes of the subblocks: read where the mode is B, else the one that the mode counts as.
 fn subs_of(decoder: &mut Decoder<'_>, key: bool, around: &Neighbours<'_>, y: YMode) -> [SubMode; 16]
     ensures reads { run (if is_b y then sub_modes key around.now 16 [] else Done (replicate 16 (implied y))) decoder.old ≡ (result, decoder.new) }
+    ensures whole { is_b y ≡ false → result ≡ replicate 16 (implied y) }
 {
     if let YMode::B = y {
         read_sub_modes(decoder, key, around)
