@@ -5,23 +5,32 @@ use sal_base::Vector;
 /// The range of suggested vectors.
 #[derive(Clone, Copy, Debug, PartialEq, Eq)]
 pub struct Bounds {
+    /// The least row and column, in quarter samples: up and left to the first place wholly outside the picture.
     pub least: Vector,
+    /// The greatest row and column, alike down and right.
     pub greatest: Vector,
 }
 
 /// The sign biases of a frame, and that of this macroblock's reference.
 #[derive(Clone, Copy, Debug, PartialEq, Eq)]
 pub struct Bias {
+    /// Whether vectors on golden are turned round (section 9.7).
     pub golden: bool,
+    /// Whether vectors on alt are turned round (section 9.7).
     pub alt: bool,
+    /// Whether vectors on the macroblock's own reference are turned round; others are compared with it.
     pub own: bool,
 }
 
 /// The suggested vectors, and the counts that choose the probabilities of the vector mode.
 #[derive(Clone, Copy, Debug, PartialEq, Eq)]
 pub struct Near {
+    /// The vector that NEW, also that of a part, is added to; in quarter samples, cut off at the bounds.
     pub best: Vector,
+    /// The vector of mode NEAREST, cut off at the bounds.
     pub nearest: Vector,
+    /// The vector of mode NEAR, cut off at the bounds.
     pub near: Vector,
+    /// The weights of no motion, nearest, near and parts, in this order; each at most 5.
     pub counts: [u8; 4],
 }

@@ -7,9 +7,13 @@ use std::marker::Model;
 /// The macroblocks above, left and above-left of one, and how far its near vectors may point. Contracts see it as an `Around`.
 #[derive(Drop)]
 pub(crate) struct Neighbours<'a> {
+    /// The macroblock above; outside the picture the one that stands for those there.
     pub above: &'a MbMode,
+    /// The macroblock on the left, alike.
     pub left: &'a MbMode,
+    /// The macroblock above the one on the left, alike.
     pub corner: &'a MbMode,
+    /// How far the near vectors may point, in quarter samples.
     pub bounds: Bounds,
 }
 
