@@ -22,6 +22,7 @@ pub struct Kept {
     pub bias_alt: bool,
     /// The segment of each macroblock, in raster order (section 9.3).
     pub map: Bytes,
+    /// The probabilities in use (sections 9.10, 13.4 and 17.2).
     pub probs: Probs,
 }
 
@@ -31,24 +32,37 @@ pub struct Kept {
 pub struct Header {
     /// Whether it is a key frame; this one and `shown` are the tag's.
     pub key: bool,
+    /// Whether the picture is to be shown (section 9.1).
     pub shown: bool,
+    /// The colour space's bit, in key frames only.
     pub colour: bool,
+    /// Whether samples need no clamping, in key frames only; it changes nothing here.
     pub clamping: bool,
+    /// Whether there are segments (section 9.3).
     pub segmentation: bool,
+    /// Whether each macroblock says its segment (section 9.3).
     pub update_map: bool,
+    /// Whether the header says quantisers and levels of segments (section 9.3).
     pub update_data: bool,
+    /// Whether those stand for the frame's own, else they are added to them (section 9.3).
     pub absolute: bool,
-    /// Whether the simple filter is used.
+    /// Whether the simple filter is used (section 9.4).
     pub simple: bool,
-    /// Whether the filter's deltas are in use.
+    /// Whether the filter's deltas are in use (section 9.4).
     pub deltas: bool,
+    /// Whether the header says the filter's deltas (section 9.4).
     pub update_deltas: bool,
-    /// Whether the probabilities serve the next frames too.
+    /// Whether the probabilities serve the next frames too (section 9.11).
     pub refresh_entropy: bool,
+    /// Whether the picture becomes golden, in inter frames (section 9.7).
     pub refresh_golden: bool,
+    /// Whether the picture becomes alt, in inter frames (section 9.7).
     pub refresh_alt: bool,
+    /// Whether vectors on golden are turned round (section 9.7).
     pub bias_golden: bool,
+    /// Whether vectors on alt are turned round (section 9.7).
     pub bias_alt: bool,
+    /// Whether the picture becomes last, in inter frames.
     pub refresh_last: bool,
     /// Whether macroblocks say that they have no levels (mb_no_coeff_skip).
     pub skips: bool,
@@ -60,29 +74,38 @@ pub struct Header {
     pub ref_deltas: [i8; 4],
     /// The filter's deltas by mode, from -63 to 63.
     pub mode_deltas: [i8; 4],
-    /// The probabilities of the segment map.
+    /// The probabilities of the segment map, 255 where unflagged (section 9.3).
     pub map: [u8; 3],
-    /// The filter's level, at most 63.
+    /// The filter's level, at most 63 (section 9.4).
     pub level: u8,
-    /// The filter's sharpness, at most 7.
+    /// The filter's sharpness, at most 7 (section 9.4).
     pub sharpness: u8,
-    /// The logarithm of the count of token partitions, at most 3.
+    /// The logarithm of the count of token partitions, at most 3 (section 9.5).
     pub log2: u8,
-    /// The quantiser's index, at most 127.
+    /// The quantiser's index, at most 127 (section 9.6).
     pub y_ac: u8,
-    /// What is copied to golden: 1 last, 2 alt.
+    /// What is copied to golden: 1 last, 2 alt, else nothing (section 9.7).
     pub copy_golden: u8,
-    /// What is copied to alt: 1 last, 2 golden.
+    /// What is copied to alt: 1 last, 2 golden, else nothing (section 9.7).
     pub copy_alt: u8,
+    /// The probability, of 256, that a macroblock has levels, 0 where none says so (section 9.11).
     pub prob_skip: u8,
+    /// The probability, of 256, that a macroblock is intra (section 9.10).
     pub prob_intra: u8,
+    /// The probability, of 256, that an inter macroblock's reference is last (section 9.10).
     pub prob_last: u8,
+    /// The probability, of 256, that it is golden, where it isn't last (section 9.10).
     pub prob_golden: u8,
-    /// The deltas of the quantiser's index, each from -15 to 15.
+    /// The index's delta for the first level of luma blocks, from -15 to 15 (section 9.6).
     pub y_dc: i8,
+    /// The delta for the first level of second-order blocks, from -15 to 15.
     pub y2_dc: i8,
+    /// The delta for the other levels of second-order blocks, from -15 to 15.
     pub y2_ac: i8,
+    /// The delta for the first level of chroma blocks, from -15 to 15.
     pub uv_dc: i8,
+    /// The delta for the other levels of chroma blocks, from -15 to 15.
     pub uv_ac: i8,
+    /// The probabilities that the header replaces (sections 9.10, 13.4 and 17.2).
     pub updates: Updates,
 }
