@@ -21,17 +21,13 @@ const KEY: Tag = Tag {
 };
 
 #[test]
-fn tags_and_their_first_faults(rt: HostRuntime) {
-    let cases: [(&[u8], Result<Tag, Fault>); 16] = [
+fn starts_of_key_frames_and_their_first_faults(rt: HostRuntime) {
+    let cases: [(&[u8], Result<Tag, Fault>); 9] = [
         (
             &[0x10, 0x01, 0x00, 0x9d, 0x01, 0x2a, 0x10, 0x00, 0x10, 0x00],
             Ok(KEY),
         ),
-        (&[], Err(Fault::Short)),
-        (&[0x10, 0x00], Err(Fault::Short)),
         (&[0x10, 0x01, 0x00], Err(Fault::Short)),
-        (&[0x12, 0x00, 0x00], Err(Fault::BadVersion(1))),
-        (&[0x1e, 0x00, 0x00], Err(Fault::BadVersion(7))),
         (
             &[0x10, 0x00, 0x00, 0x9d, 0x01, 0x2b, 0x00, 0x00, 0x10],
             Err(Fault::Short),
@@ -67,6 +63,19 @@ fn tags_and_their_first_faults(rt: HostRuntime) {
                 height: 720,
             }),
         ),
+    ];
+    for (bytes, tag) in cases {
+        assert_eq!(rt; read_tag(bytes), tag, "{bytes:?}");
+    }
+}
+
+#[test]
+fn tags_of_inter_frames_and_their_first_faults(rt: HostRuntime) {
+    let cases: [(&[u8], Result<Tag, Fault>); 7] = [
+        (&[], Err(Fault::Short)),
+        (&[0x10, 0x00], Err(Fault::Short)),
+        (&[0x12, 0x00, 0x00], Err(Fault::BadVersion(1))),
+        (&[0x1e, 0x00, 0x00], Err(Fault::BadVersion(7))),
         // An inter frame has no sides.
         (
             &[0x11, 0x00, 0x00],
