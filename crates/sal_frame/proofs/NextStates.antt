@@ -1,11 +1,14 @@
 -- The next state out of its parts.
-use Rattle.std.proofs.Common.{◌≡◌, Option, Some, refl, ap, ◌∙◌}
+use Rattle.std.proofs.Common.{◌≡◌, ℕ, List, refl, sym}
 use Rattle.sal_base.specs.declared.picture.Planes.{Planes}
-use Rattle.sal_header.specs.declared.header.Kept.{Kept}
-use Rattle.sal_state.specs.States.{References, StateData}
+use Rattle.sal_probs.specs.Probabilities.{Table, kept}
+use Rattle.sal_header.specs.declared.header.Header.{Header}
+use Rattle.sal_state.specs.States.{StateData}
 use Rattle.sal_frame.specs.Records.{Record}
-use Rattle.sal_frame.specs.After.{kept_after, references_after, planes_of, state_after}
+use Rattle.sal_frame.specs.After.{map_after, planes_of, state_from, state_after}
 
-pub next : (s : StateData) (kept : Kept) (old : Option References) (references : References) (planes : Planes) (f : Record) (result : StateData) → result ≡ record { kept = kept; references = Some references } → kept ≡ kept_after s.kept f → old ≡ s.references → references ≡ references_after f planes old → planes ≡ planes_of s.references f → result ≡ state_after s f
+-- of a frame whose header, size, planes, map and probabilities they are
+pub next : (s : StateData) (h : Header) (width height : ℕ) (planes : Planes) (map : List ℕ) (probs : Table) (f : Record) (result : StateData) → f.header ≡ h → f.width ≡ width → f.height ≡ height → planes ≡ planes_of s.references f → map ≡ map_after f s.kept.map → probs ≡ kept h.key h.refresh_entropy s.kept.probs h.updates → result ≡ state_from h width height planes map probs s.references → result ≡ state_after s f
 unfolding state_after
-next s kept old references planes f result is kept_is old_is references_are planes_are = rw (is, kept_is, references_are, old_is, planes_are) refl
+next s h width height planes map probs f result header_is width_is height_is planes_are map_is probs_are is =
+    rw (is, planes_are, map_is, probs_are, sym header_is, sym width_is, sym height_is) refl

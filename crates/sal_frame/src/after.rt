@@ -1,4 +1,4 @@
-//! The next state: what is kept for later headers and macroblocks, and the references (RFC 6386, sections 9.3, 9.4, 9.7 and 9.11).
+//! The references after a frame (RFC 6386, sections 9.7 and 9.8).
 
 ghost use Rattle.std.specs.Prelude.{◌≡◌, ℕ, IfOk, IfSome, false, Some, if◌then◌else◌};
 ghost use Rattle.std.specs.Arc.{arc_value};
@@ -7,8 +7,7 @@ ghost use Rattle.sal_base.specs.declared.picture.Planes.{Planes as PlanesData};
 ghost use Rattle.sal_base.specs.Picture.{AreSides};
 ghost use Rattle.sal_base.specs.Pictures.{blocks_of};
 ghost use Rattle.sal_state.specs.States.{HasBlocks, AreReferences};
-ghost use Rattle.sal_frame.specs.Records.{Record};
-ghost use Rattle.sal_frame.specs.After.{copied, all_new, some_new, references_after};
+ghost use Rattle.sal_frame.specs.After.{copied, all_new, with_copies, some_new, references_from};
 ghost use Rattle.sal_frame.specs.Refreshing.{refreshes};
 
 use sal_base::Memory;
@@ -41,22 +40,19 @@ fn copied(
     Ok(Arc::try_clone(chosen)?)
 }
 
-// A share of the new reference where it is refreshed, else of what the copy flag says.
+// A share of the new reference where it is refreshed, else what was kept.
 fn refreshed(
     refresh: bool,
     new: &Arc<Reference>,
-    flag: u8,
-    old: &Arc<Reference>,
-    first: &Arc<Reference>,
-    second: &Arc<Reference>,
+    kept: Arc<Reference>,
 ) -> Result<Arc<Reference>, Memory>
-    ensures whole { (columns rows : ℕ) → HasBlocks columns rows (arc_value new.now) → HasBlocks columns rows (arc_value old.now) → HasBlocks columns rows (arc_value first.now) → HasBlocks columns rows (arc_value second.now) → IfOk result (λ r. HasBlocks columns rows (arc_value r)) }
-    ensures share { IfOk result (λ r. arc_value r ≡ (if refresh then arc_value new.now else copied flag (arc_value old.now) (arc_value first.now) (arc_value second.now))) }
+    ensures whole { (columns rows : ℕ) → HasBlocks columns rows (arc_value new.now) → HasBlocks columns rows (arc_value kept) → IfOk result (λ r. HasBlocks columns rows (arc_value r)) }
+    ensures share { IfOk result (λ r. arc_value r ≡ (if refresh then arc_value new.now else arc_value kept)) }
 {
     if refresh {
         Ok(Arc::try_clone(new)?)
     } else {
-        copied(flag, old, first, second)
+        Ok(kept)
     }
 }
 
@@ -66,7 +62,7 @@ fn all_new(width: u16, height: u16, new: &Arc<Reference>) -> Result<References, 
     requires blocks { HasBlocks (blocks_of width) (blocks_of height) (arc_value new.now) }
     ensures whole { IfOk result AreReferences }
     ensures size { IfOk result (λ r. (r.width ≡ width) × (r.height ≡ height)) }
-    ensures after { (f : Record) → f.width ≡ width → f.height ≡ height → IfOk result (λ r. r ≡ all_new f (arc_value new.now)) }
+    ensures after { IfOk result (λ r. r ≡ all_new width height (arc_value new.now)) }
 {
     Ok(References {
         width,
@@ -77,31 +73,41 @@ fn all_new(width: u16, height: u16, new: &Arc<Reference>) -> Result<References, 
     })
 }
 
-// The references after an inter frame; copies are of those before it.
+// The references after an inter frame.
 fn some_new(old: &References, header: &Header, new: &Arc<Reference>) -> Result<References, Memory>
     requires old { AreReferences old.now }
     requires blocks { HasBlocks (blocks_of old.now.width) (blocks_of old.now.height) (arc_value new.now) }
     ensures whole { IfOk result AreReferences }
     ensures size { IfOk result (λ r. (r.width ≡ old.now.width) × (r.height ≡ old.now.height)) }
-    ensures after { (f : Record) → f.header ≡ header.now → f.width ≡ old.now.width → f.height ≡ old.now.height → IfOk result (λ r. r ≡ some_new f (arc_value new.now) old.now) }
+    ensures after { IfOk result (λ r. r ≡ some_new header.now old.now.width old.now.height (arc_value new.now) old.now) }
 {
-    let last = refreshed(header.refresh_last, new, 0, &old.last, &old.last, &old.last)?;
-    let golden = refreshed(
-        header.refresh_golden,
-        new,
-        header.copy_golden,
-        &old.golden,
-        &old.last,
-        &old.alt,
-    )?;
-    let alt = refreshed(
-        header.refresh_alt,
-        new,
-        header.copy_alt,
-        &old.alt,
-        &old.last,
-        &old.golden,
-    )?;
+    let References {
+        width,
+        height,
+        last,
+        golden,
+        alt,
+    } = with_copies(old, header)?;
+    Ok(References {
+        width,
+        height,
+        last: refreshed(header.refresh_last, new, last)?,
+        golden: refreshed(header.refresh_golden, new, golden)?,
+        alt: refreshed(header.refresh_alt, new, alt)?,
+    })
+}
+
+/// The references with the copies that an inter frame makes, which are of those before it. Where it refreshes none, these are the
+/// references after it, and no planes are made anew.
+pub fn with_copies(old: &References, header: &Header) -> Result<References, Memory>
+    requires old { AreReferences old.now }
+    ensures whole { IfOk result AreReferences }
+    ensures copies { IfOk result (λ r. r ≡ with_copies header.now old.now) }
+    ensures after { refreshes header.now ≡ false → (p : PlanesData) → IfOk result (λ r. r ≡ references_from header.now old.now.width old.now.height p (Some old.now)) }
+{
+    let last = Arc::try_clone(&old.last)?;
+    let golden = copied(header.copy_golden, &old.golden, &old.last, &old.alt)?;
+    let alt = copied(header.copy_alt, &old.alt, &old.last, &old.golden)?;
     Ok(References {
         width: old.width,
         height: old.height,
@@ -124,7 +130,7 @@ pub fn references_after(
     requires old { IfSome (option_copied old) AreReferences }
     requires sides { AreSides width height }
     requires blocks { HasBlocks (blocks_of width) (blocks_of height) (arc_value new.now) }
-    ensures after { (f : Record) → f.header ≡ header.now → f.width ≡ width → f.height ≡ height → IfOk result (λ r. r ≡ references_after f (arc_value new.now) (option_copied old.entry)) }
+    ensures after { IfOk result (λ r. r ≡ references_from header.now width height (arc_value new.now) (option_copied old.entry)) }
     ensures whole { IfOk result AreReferences }
     ensures size { IfOk result (λ r. (r.width ≡ width) × (r.height ≡ height)) }
 {
@@ -132,24 +138,4 @@ pub fn references_after(
         Some(old) if !header.key => some_new(old, header, new),
         _ => all_new(width, height, new),
     }
-}
-
-/// The references after an inter frame that refreshes none: no planes are made anew, and copies are of those before it.
-pub fn references_kept(old: &References, header: &Header) -> Result<References, Memory>
-    requires none { refreshes header.now ≡ false }
-    requires old { AreReferences old.now }
-    ensures whole { IfOk result AreReferences }
-    ensures size { IfOk result (λ r. (r.width ≡ old.now.width) × (r.height ≡ old.now.height)) }
-    ensures after { (f : Record) (p : PlanesData) → f.header ≡ header.now → f.width ≡ old.now.width → f.height ≡ old.now.height → IfOk result (λ r. r ≡ references_after f p (Some old.now)) }
-{
-    let last = Arc::try_clone(&old.last)?;
-    let golden = copied(header.copy_golden, &old.golden, &old.last, &old.alt)?;
-    let alt = copied(header.copy_alt, &old.alt, &old.last, &old.golden)?;
-    Ok(References {
-        width: old.width,
-        height: old.height,
-        last,
-        golden,
-        alt,
-    })
 }

@@ -22,7 +22,7 @@ pub use after::refreshes;
 pub use build::{build_inter, build_intra};
 pub use cropping::crop;
 pub use heads::{filter_head, info_of};
-pub use next::next_state;
+pub use next::{next_state, state_from};
 pub use raster::{one_macroblock_more, sizes_stay};
 pub use steps::{Steps, segment_steps};
 
