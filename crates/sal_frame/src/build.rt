@@ -1,6 +1,6 @@
 //! Macroblocks built into planes (RFC 6386, sections 12, 14.5 and 18).
 
-ghost use Rattle.std.specs.Prelude.{◌≡◌, ◌<◌, ◌≤◌, ◌+◌, ◌*◌, ℕ, Bool, false, IsTrue, length};
+ghost use Rattle.std.specs.Prelude.{◌≡◌, ◌<◌, ◌≤◌, ◌+◌, ◌*◌, false, length};
 ghost use Rattle.sal_base.specs.declared.picture.Plane.{Plane};
 ghost use Rattle.sal_macroblock.specs.Blocks.{no_levels};
 ghost use Rattle.sal_state.specs.States.{References, AreWhole};

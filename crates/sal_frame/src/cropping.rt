@@ -3,7 +3,6 @@
 ghost use Rattle.std.specs.Prelude.{◌≡◌, ◌≤◌, ◌+◌, ◌*◌, length, IfOk};
 ghost use Rattle.sal_base.specs.Picture.{AreSides, IsPlane, IsPicture};
 ghost use Rattle.sal_base.specs.Pictures.{cut, cropped, blocks_of};
-ghost use Rattle.sal_base.specs.Samples.{rows_cut};
 ghost use Rattle.sal_state.specs.States.{HasBlocks};
 
 use sal_base::{Bytes, Memory, Picture, Plane, Planes};

@@ -1,11 +1,10 @@
-//! The samples around a macroblock, read where they lie in a plane, and those around a subblock (RFC 6386, sections 12.2 and
-//! 12.3).
+//! The samples around a macroblock, read where they lie in a plane (RFC 6386, sections 12.2 and 12.3).
 
 ghost use Rattle.std.specs.Prelude.{◌≡◌, ◌<◌, ◌≤◌, ◌+◌, ◌*◌, ℕ, length, slice_index};
-ghost use Rattle.sal_intra.specs.Edges.{above_at, left_at, corner_at, luma_edge_of, chroma_edge_of, inner_above, inner_left, inner_corner, sub_edge_of};
+ghost use Rattle.sal_intra.specs.Edges.{above_at, left_at, corner_at, luma_edge_of, chroma_edge_of};
 
 use sal_base::Plane;
-use sal_intra::{ChromaEdge, LumaEdge, SubEdge};
+use sal_intra::{ChromaEdge, LumaEdge};
 
 // The samples above column x, row y and to the right; beyond the plane the last one counts again.
 fn fill_above(above: &mut [u8], samples: &[u8], width: usize, x: usize, y: usize)

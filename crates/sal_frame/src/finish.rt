@@ -1,6 +1,6 @@
 //! Predictions with the residues of their macroblock (RFC 6386, section 14.5).
 
-ghost use Rattle.std.specs.Prelude.{◌≡◌, ◌≤◌, ℕ, Bool, false, length};
+ghost use Rattle.std.specs.Prelude.{◌≡◌, ◌≤◌, ℕ, false};
 ghost use Rattle.sal_base.specs.Samples.{IsBlockOf};
 ghost use Rattle.sal_macroblock.specs.Blocks.{no_levels};
 ghost use Rattle.sal_frame.specs.Built.{added};

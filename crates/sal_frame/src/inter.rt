@@ -1,9 +1,9 @@
 //! Inter macroblocks: predicted from a reference by their vectors, with their residues added (RFC 6386, sections 14.5 and 18).
 
-ghost use Rattle.std.specs.Prelude.{◌≡◌, ◌≤◌, ◌<◌, ◌+◌, ◌*◌, ◌/◌, ◌%◌, ◌+ℤ◌, ◌≤ℤ◌, ℕ, Bool, pos, neg_ℤ, true, false, IsTrue, slice_index};
+ghost use Rattle.std.specs.Prelude.{◌≡◌, ◌≤◌, ◌<◌, ◌+◌, ◌*◌, ◌/◌, ◌%◌, ◌+ℤ◌, ◌≤ℤ◌, ℕ, pos, neg_ℤ, true, false, IsTrue, slice_index};
 ghost use Rattle.sal_base.specs.Samples.{IsBlockOf};
 ghost use Rattle.sal_macroblock.specs.Blocks.{no_levels};
-ghost use Rattle.sal_macroblock.specs.Macroblocks.{vector_at, own_vector, is_split};
+ghost use Rattle.sal_macroblock.specs.Macroblocks.{vector_at};
 ghost use Rattle.sal_inter.specs.Inter.{HasSamples, inter_sample, quarter, mean_vector};
 ghost use Rattle.sal_frame.specs.Built.{added, luma_vector, chroma_vector, quarter_vector};
 ghost use Rattle.sal_frame.specs.Records.{macroblock};

@@ -1,13 +1,13 @@
 //! Intra macroblocks: predicted from the samples around them, with their residues added (RFC 6386, sections 12 and 14.5).
 
-ghost use Rattle.std.specs.Prelude.{◌≡◌, ◌≤◌, ◌<◌, ◌+◌, ◌*◌, ◌/◌, ◌%◌, ◌⊎◌, Bool, true, false, IsTrue, length};
+ghost use Rattle.std.specs.Prelude.{◌≡◌, ◌≤◌, ◌⊎◌, false, IsTrue};
 ghost use Rattle.sal_macroblock.specs.Blocks.{no_levels};
 ghost use Rattle.sal_macroblock.specs.Macroblocks.{is_b};
-ghost use Rattle.sal_intra.specs.Intra.{is_whole, whole_sample, luma_edge, chroma_edge};
-ghost use Rattle.sal_frame.specs.Built.{added, subs_built};
+ghost use Rattle.sal_intra.specs.Intra.{is_whole, whole_sample, luma_edge};
+ghost use Rattle.sal_frame.specs.Built.{added};
 ghost use Rattle.sal_frame.specs.Intra.{intra_luma, intra_chroma};
 ghost use Rattle.sal_frame.specs.Records.{macroblock};
-ghost use Rattle.sal_frame.specs.Residues.{luma_residues, chroma_residues, residue_at};
+ghost use Rattle.sal_frame.specs.Residues.{luma_residues, residue_at};
 
 use crate::finish::{finish_chroma, finish_luma};
 use crate::steps::Steps;

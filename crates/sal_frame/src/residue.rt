@@ -1,11 +1,11 @@
 //! The residues of a macroblock: its levels times their steps, transformed back (RFC 6386, section 14).
 
-ghost use Rattle.std.specs.Prelude.{◌≡◌, ◌<◌, ◌≤◌, ◌+◌, ℕ, Bool, List, ℤ, pos, All, IsTrue, replicate, slice_index_or, []};
+ghost use Rattle.std.specs.Prelude.{◌≡◌, ◌≤◌, ◌+◌, Bool, pos, All, IsTrue, replicate, slice_index_or, []};
 ghost use Rattle.sal_macroblock.specs.Sizes.{Within};
 ghost use Rattle.sal_transform.specs.Inverse.{rounded};
 ghost use Rattle.sal_transform.specs.Residue.{residue_of, firsts_of, residue_after};
 ghost use Rattle.sal_frame.specs.Records.{macroblock};
-ghost use Rattle.sal_frame.specs.Residues.{firsts, luma_alone, luma_after, luma_residues, chroma_residues};
+ghost use Rattle.sal_frame.specs.Residues.{firsts, luma_residues, chroma_residues};
 ghost use Rattle.sal_base.specs.Samples.{listed};
 ghost use Rattle.sal_macroblock.specs.declared.mode.MbMode.{MbMode};
 ghost use Rattle.sal_frame.specs.Small.{HasOneLevel};

@@ -1,6 +1,6 @@
 //! Quantiser steps of segments (RFC 6386, sections 9.3, 9.6 and 14.1).
 
-ghost use Rattle.std.specs.Prelude.{◌≡◌, ◌<◌, ◌≤◌, pos, ◌+ℤ◌};
+ghost use Rattle.std.specs.Prelude.{◌≡◌, ◌<◌, ◌≤◌};
 ghost use Rattle.sal_macroblock.specs.Sizes.{Within};
 ghost use Rattle.sal_transform.specs.Steps.{index_of, dc_step, ac_step};
 ghost use Rattle.sal_frame.specs.Records.{quantiser_of, segment_steps};

@@ -1,6 +1,6 @@
 //! Macroblocks in mode B: sixteen subblocks, each predicted from those before it (RFC 6386, section 12.3).
 
-ghost use Rattle.std.specs.Prelude.{◌≡◌, ◌<◌, ◌≤◌, ◌+◌, ◌*◌, ◌/◌, ◌%◌, ℕ, Bool, pos, IsTrue, [], ◌∷◌, length, slice_index};
+ghost use Rattle.std.specs.Prelude.{◌≡◌, ◌<◌, ◌≤◌, ◌+◌, ◌*◌, ◌/◌, ◌%◌, Bool, [], ◌∷◌};
 ghost use Rattle.sal_base.specs.Samples.{listed};
 ghost use Rattle.sal_intra.specs.Edges.{inner_above, inner_left, inner_corner, sub_edge_of};
 ghost use Rattle.sal_intra.specs.Sub.{sub_sample};
