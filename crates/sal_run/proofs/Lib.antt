@@ -8,3 +8,4 @@ pub mod Resting
 pub mod Whole
 pub mod Sizes
 pub mod Promised
+pub mod Emptied

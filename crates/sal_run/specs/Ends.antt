@@ -6,7 +6,7 @@ use Rattle.sal_y4m.specs.declared.head.Head.{Head}
 use Rattle.sal_script.specs.declared.line.ScriptLine.TheVariants.{Rest}
 use Rattle.sal_script.specs.Numbered.{Numbered}
 use Rattle.sal_world.specs.World.{Event, Next, after}
-use Rattle.sal_world.specs.Promises.{Names, Holds}
+use Rattle.sal_world.specs.Promises.{Names, Holds, NothingIsLeft, AllIsServed}
 use Rattle.sal_run.specs.declared.diary.DiaryFault.{DiaryFault}
 use Rattle.sal_run.specs.declared.diary.DiaryFault.TheVariants as diary
 use Rattle.sal_run.specs.declared.end.Which.TheVariants.{Out, Journal, Pictures, Script}
@@ -82,6 +82,12 @@ module _ {S : Type 0} (codec : Coding S) (head : Head) (lines : List Numbered) w
     pub holds :
         (later before : List Event) → AreEvents i later before → Names codec (after codec (session_of head) before)
         → Holds codec (session_of head) (after codec (session_of head) before)
+
+-- the run of these lines leaves no frame that waits to be decoded or is out; where names differ, each frame that was ready was then
+-- shown, or a number at least as great was
+pub record LeavesNothing {S : Type 0} (codec : Coding S) (head : Head) (lines : List Numbered) (bytes : List ℕ) : Type 0 where
+  pub left : NothingIsLeft codec (clip_run codec head bytes lines).0.world.receiver
+  pub served : Names codec (clip_run codec head bytes lines).0.world → AllIsServed codec (clip_run codec head bytes lines).0.world.receiver
 
 -- what was read is read to its end where all went well
 abbrev pub AtEnd : RunEnd → Option (List ℕ) → Type 0

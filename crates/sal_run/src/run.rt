@@ -8,7 +8,7 @@ ghost use Rattle.sal_script.specs.Numbered.{Numbered};
 ghost use Rattle.sal_script.specs.Script.{most_script};
 ghost use Rattle.sal_sender.specs.Machine.{IsHead};
 ghost use Rattle.sal_world.specs.Script.{begun};
-ghost use Rattle.sal_run.specs.Ends.{RunGives, KeepsPromises, AtEnd};
+ghost use Rattle.sal_run.specs.Ends.{RunGives, KeepsPromises, LeavesNothing, AtEnd};
 ghost use Rattle.sal_run.specs.Stops.{end_of, run_end};
 ghost use Rattle.sal_run.specs.Running.{IsAt, Opened};
 
@@ -152,6 +152,7 @@ pub fn run_alone<C: Codec, S: Source, K: Sink, J: Diary>(
     requires nothing { IfSome (K.held out.old.sink) (λ xs. xs ≡ []) }
     ensures gives { RunGives C.coding pictures.old.head script.now J.gives result (S.left pictures.old.source) (K.held out.new.sink) }
     ensures promises { IfSome (S.left pictures.old.source) (KeepsPromises C.coding pictures.old.head script.now) }
+    ensures leaves { IfSome (S.left pictures.old.source) (LeavesNothing C.coding pictures.old.head script.now) }
     ensures end { AtEnd result (S.left pictures.new.source) }
     ensures cause { HasCause RunEnd.ReadFault (S.faults pictures.old.source) (S.faults pictures.new.source) result }
     ensures out_cause { HasCause (RunEnd.WriteFault Which.Out) (K.faults out.old.sink) (K.faults out.new.sink) result }

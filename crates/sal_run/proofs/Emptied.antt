@@ -12,8 +12,7 @@ use Rattle.sal_world.specs.Script.{Run, line}
 use Rattle.sal_world.proofs.Emptied.{IsEmpty, IsEmptyIn, line_empty, begun_empty, served_so}
 use Rattle.sal_run.specs.Clip.{End, clip_at}
 use Rattle.sal_run.specs.Loop.{session_of, after_rest, after_line, in_line, ended, clip_run}
-use Rattle.sal_run.specs.Ends.{KeepsPromises}
-use Rattle.sal_app.specs.Ends.{LeavesNothing}
+use Rattle.sal_run.specs.Ends.{KeepsPromises, LeavesNothing}
 
 module _ {S : Type 0} (codec : Coding S) (session : Session) where
   rest_empty : (fault : Option End) (more : Run S → Run S × End) (r : Run S) → IsEmpty codec session r → ((s : Run S) → IsEmpty codec session s → IsEmpty codec session (more s).0) → IsEmpty codec session (after_rest fault more r).0
