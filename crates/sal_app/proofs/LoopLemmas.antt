@@ -7,6 +7,7 @@ use Rattle.sal_y4m.specs.declared.head.Head.{Head}
 use Rattle.sal_y4m.specs.declared.fault.Why.{Why}
 use Rattle.sal_y4m.specs.declared.fault.Why.TheVariants.{Form}
 use Rattle.sal_y4m.specs.Grammar.{header_at}
+use Rattle.sal_y4m.specs.Answers.{HeaderUnread}
 use Rattle.sal_script.specs.Numbered.{Numbered}
 use Rattle.sal_script.specs.Script.{script_of}
 use Rattle.sal_run.specs.declared.diary.DiaryFault.{DiaryFault}
@@ -20,7 +21,7 @@ use Rattle.sal_run.specs.Ends.{Ends as LinesEnd, RunGives as LinesGave, AtEnd as
 use Rattle.sal_app.specs.declared.status.Stop.{Stop}
 use Rattle.sal_app.specs.declared.status.Stop.TheVariants as stop
 use Rattle.sal_app.specs.Stops.{of_run, IsNothing, LinesGive, HeadGives}
-use Rattle.sal_app.specs.Ends.{OfRun, Told, Ends, SoFarOrNot, RunGives, AtEnd}
+use Rattle.sal_app.specs.Ends.{OfRun, Told, Ends, SoFarOrNot, UpToNextOrNot, RunGives, AtEnd}
 
 -- ---- where all is told
 
@@ -60,11 +61,19 @@ with_told P head lines (Some i) (Some body) (Some s) (Some o) p q told = (head, 
 abbrev pub OrNothing : (List ℕ → List ℕ → List ℕ → Type 0) → List ℕ → List ℕ → List ℕ → Type 0
 OrNothing P i s o = (o ≡ []) ⊎ P i s o
 
-or_not : (P : List ℕ → List ℕ → List ℕ → Type 0) (i s o : Option (List ℕ)) → Told i s o P → Told i s o (OrNothing P)
-or_not P i s None told = tt
-or_not P None s (Some o) told = tt
-or_not P (Some i) None (Some o) told = tt
-or_not P (Some i) (Some s) (Some o) told = inr told
+-- the header was read, and OUT holds what events make it hold
+header_read : {S : Type 0} (codec : Coding S) (left i s o : Option (List ℕ)) → Told i s o (λ i s o. OfRun (λ head lines body. UpToNext codec head lines body o) i s) → Told i s o (UpToNextOrNot codec left)
+header_read codec left i s None told = tt
+header_read codec left None s (Some o) told = tt
+header_read codec left (Some i) None (Some o) told = tt
+header_read codec left (Some i) (Some s) (Some o) told = inr told
+
+-- the header wasn't read
+header_unread : {S : Type 0} (codec : Coding S) (left i s o : Option (List ℕ)) → IsNothing o → HeaderUnread i left → Told i s o (UpToNextOrNot codec left)
+header_unread codec left i s None none unread = tt
+header_unread codec left None s (Some o) none unread = tt
+header_unread codec left (Some i) None (Some o) none unread = tt
+header_unread codec left (Some i) (Some s) (Some o) none unread = inl (none, unread)
 
 nothing : (P : List ℕ → List ℕ → List ℕ → Type 0) (i s o : Option (List ℕ)) → IsNothing o → Told i s o (OrNothing P)
 nothing P i s None none = tt
@@ -88,25 +97,25 @@ partly_or_not codec head lines (Some i) (Some body) (Some s) (Some o) p q (inr p
 abbrev pub none_given : DiaryFault → Bool
 none_given fault = false
 
-run_gives : {S : Type 0} (codec : Coding S) (end : RunEnd) (head : Head) (lines : List Numbered) (i i' s o : Option (List ℕ)) → ReadsAs header_at i i' head → IfSome s (λ s. script_of s ≡ Ok lines)
-    → LinesGave codec head lines none_given end i' o → RunGives codec (of_run end) i s o
-run_gives codec run.Ok head lines i i' s o p q gave = with_lines codec Done head lines i i' s o p q gave
-run_gives codec (run.BadInput place why) head lines i i' s o p q gave = with_lines codec (BadInput place why) head lines i i' s o p q gave
-run_gives codec (run.BadScript line) head lines i i' s o p q gave = with_lines codec (BadScript line) head lines i i' s o p q gave
-run_gives codec run.TooMany head lines i i' s o p q gave = with_lines codec TooMany head lines i i' s o p q gave
-run_gives codec run.TooLong head lines i i' s o p q (inl gave) = with_lines codec TooLong head lines i i' s o p q gave
-run_gives codec run.TooLong head lines i i' s o p q (inr failed) = let never : false ≡ true = failed.0 in absurd cc
-run_gives codec run.ReadFault head lines i i' s o p q gave = or_not _ i s o (with_told (UpToNext codec) head lines i i' s o p q gave)
-run_gives codec (run.WriteFault Out) head lines i i' s o p q gave = with_told (Cut codec) head lines i i' s o p q gave
-run_gives codec (run.WriteFault Journal) head lines i i' s o p q gave = let never : false ≡ true = gave.0 in absurd cc
-run_gives codec (run.WriteFault Pictures) head lines i i' s o p q gave = absurd gave
-run_gives codec (run.WriteFault Script) head lines i i' s o p q gave = absurd gave
-run_gives codec run.Memory head lines i i' s o p q gave = partly_or_not codec head lines i i' s o p q gave
+run_gives : {S : Type 0} (codec : Coding S) (end : RunEnd) (head : Head) (lines : List Numbered) (i i' left s o : Option (List ℕ)) → ReadsAs header_at i i' head → IfSome s (λ s. script_of s ≡ Ok lines)
+    → LinesGave codec head lines none_given end i' o → RunGives codec (of_run end) i left s o
+run_gives codec run.Ok head lines i i' left s o p q gave = with_lines codec Done head lines i i' s o p q gave
+run_gives codec (run.BadInput place why) head lines i i' left s o p q gave = with_lines codec (BadInput place why) head lines i i' s o p q gave
+run_gives codec (run.BadScript line) head lines i i' left s o p q gave = with_lines codec (BadScript line) head lines i i' s o p q gave
+run_gives codec run.TooMany head lines i i' left s o p q gave = with_lines codec TooMany head lines i i' s o p q gave
+run_gives codec run.TooLong head lines i i' left s o p q (inl gave) = with_lines codec TooLong head lines i i' s o p q gave
+run_gives codec run.TooLong head lines i i' left s o p q (inr failed) = let never : false ≡ true = failed.0 in absurd cc
+run_gives codec run.ReadFault head lines i i' left s o p q gave = header_read codec left i s o (with_told (UpToNext codec) head lines i i' s o p q gave)
+run_gives codec (run.WriteFault Out) head lines i i' left s o p q gave = with_told (Cut codec) head lines i i' s o p q gave
+run_gives codec (run.WriteFault Journal) head lines i i' left s o p q gave = let never : false ≡ true = gave.0 in absurd cc
+run_gives codec (run.WriteFault Pictures) head lines i i' left s o p q gave = absurd gave
+run_gives codec (run.WriteFault Script) head lines i i' left s o p q gave = absurd gave
+run_gives codec run.Memory head lines i i' left s o p q gave = partly_or_not codec head lines i i' s o p q gave
 
 -- the lines were run
-pub ran : {S : Type 0} (codec : Coding S) (end : RunEnd) (r : Result (Unit {0}) Stop) (head : Head) (lines : List Numbered) (i i' s s' o : Option (List ℕ)) → r ≡ of_run end
-    → HeadGives i i' head (Ok tt) → LinesGive s s' (Ok lines) → LinesGave codec head lines none_given end i' o → RunGives codec r i s o
-ran codec end r head lines i i' s s' o e p q gave = subst (λ x. RunGives codec x i s o) (sym e) (run_gives codec end head lines i i' s o p q.0 gave)
+pub ran : {S : Type 0} (codec : Coding S) (end : RunEnd) (r : Result (Unit {0}) Stop) (head : Head) (lines : List Numbered) (i i' left s s' o : Option (List ℕ)) → r ≡ of_run end
+    → HeadGives i i' head (Ok tt) → LinesGive s s' (Ok lines) → LinesGave codec head lines none_given end i' o → RunGives codec r i left s o
+ran codec end r head lines i i' left s s' o e p q gave = subst (λ x. RunGives codec x i left s o) (sym e) (run_gives codec end head lines i i' left s o p q.0 gave)
 
 run_at_end : (end : RunEnd) (left : Option (List ℕ)) → LinesAtEnd end left → AtEnd (of_run end) left
 run_at_end run.Ok left at_end = at_end
@@ -138,15 +147,15 @@ bad_script codec n (Some i) None o none q = tt
 bad_script codec n (Some i) (Some s) o none q = let is = no_script codec i s n q in (is.0, held_is o [] _ is.1 none)
 
 -- the script wasn't read, or isn't one
-pub script_stops : {S : Type 0} (codec : Coding S) (why : Stop) (i s s' o : Option (List ℕ)) → IsNothing o → LinesGive s s' (Err why) → RunGives codec (Err why) i s o
-script_stops codec (stop.BadScript n) i s s' o none q = bad_script codec n i s o none q
-script_stops codec stop.ScriptFault i s s' o none q = none
-script_stops codec stop.Memory i s s' o none q = nothing _ i s o none
-script_stops codec (stop.BadInput place why) i s s' o none q = absurd q
-script_stops codec stop.InputFault i s s' o none q = absurd q
-script_stops codec stop.WriteFault i s s' o none q = absurd q
-script_stops codec stop.TooLong i s s' o none q = absurd q
-script_stops codec stop.TooMany i s s' o none q = absurd q
+pub script_stops : {S : Type 0} (codec : Coding S) (why : Stop) (i left s s' o : Option (List ℕ)) → IsNothing o → LinesGive s s' (Err why) → RunGives codec (Err why) i left s o
+script_stops codec (stop.BadScript n) i left s s' o none q = bad_script codec n i s o none q
+script_stops codec stop.ScriptFault i left s s' o none q = none
+script_stops codec stop.Memory i left s s' o none q = nothing _ i s o none
+script_stops codec (stop.BadInput place why) i left s s' o none q = absurd q
+script_stops codec stop.InputFault i left s s' o none q = absurd q
+script_stops codec stop.WriteFault i left s s' o none q = absurd q
+script_stops codec stop.TooLong i left s s' o none q = absurd q
+script_stops codec stop.TooMany i left s s' o none q = absurd q
 
 no_header : {S : Type 0} (codec : Coding S) (i s : List ℕ) (lines : List Numbered) → header_at i ≡ None → script_of s ≡ Ok lines → (loop_end codec i s ≡ BadInput 0 Form) × (loop_out codec i s ≡ [])
 unfolding loop_end loop_out
@@ -162,9 +171,9 @@ bad_header codec place why lines (Some i) (Some s) o none a b p q =
     (is.0 ∙ ap (λ (n : ℕ). BadInput n Form) (sym a) ∙ ap (λ (w : Why). BadInput place w) (sym b), held_is o [] _ is.1 none)
 
 -- the header wasn't read, or isn't one
-pub head_stops : {S : Type 0} (codec : Coding S) (why : Stop) (head : Head) (lines : List Numbered) (i i' s s' o : Option (List ℕ)) → IsNothing o → HeadGives i i' head (Err why) → LinesGive s s' (Ok lines) → RunGives codec (Err why) i s o
+pub head_stops : {S : Type 0} (codec : Coding S) (why : Stop) (head : Head) (lines : List Numbered) (i i' s s' o : Option (List ℕ)) → IsNothing o → HeadGives i i' head (Err why) → LinesGive s s' (Ok lines) → RunGives codec (Err why) i i' s o
 head_stops codec (stop.BadInput place why) head lines i i' s s' o none p q = bad_header codec place why lines i s o none p.1 p.2 p.0 q.0
-head_stops codec stop.InputFault head lines i i' s s' o none p q = nothing _ i s o none
+head_stops codec stop.InputFault head lines i i' s s' o none p q = header_unread codec i' i s o none p
 head_stops codec (stop.BadScript n) head lines i i' s s' o none p q = absurd p
 head_stops codec stop.ScriptFault head lines i i' s s' o none p q = absurd p
 head_stops codec stop.WriteFault head lines i i' s s' o none p q = absurd p

@@ -23,7 +23,7 @@ use Rattle.sal_run.specs.Loop.{loop_end}
 use Rattle.sal_run.specs.Ends.{KeepsPromises}
 use Rattle.sal_app.specs.Stops.{IsNothing}
 use Rattle.sal_app.specs.Ends.{RunGives, AtEnd, Ends, UpToNextOrNot}
-use Rattle.sal_app.proofs.EmptyLemmas.{leaves_nothing}
+use Rattle.sal_run.proofs.Emptied.{leaves_nothing}
 use Rattle.sal_app.specs.Top.{Files, Shut, Of, LoopAnswers, StatusOf, Unopened, IsLoop, Answers, IsComplete, IsQuiet, Promises, status_of, faults_of}
 
 four : {X : Type 0} (ws : List X) (a b c d : X) → 4 ≤ length ws → length ws < 5 → a ≡ get_or ws 0 a → b ≡ get_or ws 1 b → c ≡ get_or ws 2 c → d ≡ get_or ws 3 d → ws ≡ a ∷ b ∷ c ∷ d ∷ []
@@ -63,7 +63,7 @@ from_zero a b e r = subst (λ (n : ℕ). Rose n b) e r
 
 -- the status of a run that ended
 pub answered : (input script output : List ℕ) (holds : List ℕ → Option (List ℕ)) (before after : List Past) (faults faults' : ℕ) (end : Result (Unit {0}) Stop) (s : Status) (f : Files)
-    → Shut input script output holds before after f → StatusOf end s → RunGives plain end (holds input) (holds script) f.held → AtEnd end f.input_left → AtEnd end f.script_left
+    → Shut input script output holds before after f → StatusOf end s → RunGives plain end (holds input) f.input_left (holds script) f.held → AtEnd end f.input_left → AtEnd end f.script_left
     → HasCause (Err stop.InputFault) 0 f.input_faults end → HasCause (Err stop.ScriptFault) 0 f.script_faults end → HasCause (Err stop.WriteFault) 0 f.out_faults end
     → LoopAnswers input script output holds before after faults faults' s
 answered input script output holds before after faults faults' (Ok x) s f shut said gives at_end script_end p q r =
@@ -148,7 +148,7 @@ pub run_answered : (input script output : List ℕ) (holds holds1 : List ℕ →
     → StatusOf end s → IsOpened input (holds input) name had left n → IsOpened script (holds1 script) sname shad sleft m → IsCreated output oname held k → holds1 ≡ holds
     → p1 ≡ p0 → p2 ≡ p1 → p3 ≡ p2 → p4 ≡ p3 ++ In name' had' left' n' ∷ [] → p5 ≡ p4 ++ In sname' shad' sleft' m' ∷ [] → p6 ≡ p5 ++ Out oname' held' k' ∷ []
     → name' ≡ name → had' ≡ had → sname' ≡ sname → shad' ≡ shad → oname' ≡ oname
-    → RunGives plain end left sleft held' → AtEnd end left' → AtEnd end sleft'
+    → RunGives plain end left left' sleft held' → AtEnd end left' → AtEnd end sleft'
     → HasCause (Err stop.InputFault) n n' end → HasCause (Err stop.ScriptFault) m m' end → HasCause (Err stop.WriteFault) k k' end
     → LoopAnswers input script output holds p0 p6 f0 f6 s
 run_answered input script output holds holds1 p0 p1 p2 p3 p4 p5 p6 f0 f6 end s name name' sname sname' oname oname' had had' left left' shad shad' sleft sleft' held held' n n' m m' k k'
@@ -160,8 +160,8 @@ run_answered input script output holds holds1 p0 p1 p2 p3 p4 p5 p6 f0 f6 end s n
     ∙ ap (λ (x : Past). ((p0 ++ x ∷ []) ++ In sname' shad' sleft' m' ∷ []) ++ Out oname' held' k' ∷ []) (in_past input (holds input) name name' had had' left' n' na is.name_is ha is.had_is)
     ∙ ap (λ (x : Past). ((p0 ++ In input (holds input) left' n' ∷ []) ++ x ∷ []) ++ Out oname' held' k' ∷ []) (in_past script (holds script) sname sname' shad shad' sleft' m' sna sis'.name_is sha sis'.had_is)
     ∙ ap (λ (x : Past). ((p0 ++ In input (holds input) left' n' ∷ []) ++ In script (holds script) sleft' m' ∷ []) ++ x ∷ []) (out_past output oname oname' held' k' ona cis.name_is) in
-    let told : RunGives plain end (holds input) (holds script) held' =
-    subst (λ (o : Option (List ℕ)). RunGives plain end o (holds script) held') is.left_is (subst (λ (o : Option (List ℕ)). RunGives plain end left o held') sis'.left_is gives) in
+    let told : RunGives plain end (holds input) left' (holds script) held' =
+    subst (λ (o : Option (List ℕ)). RunGives plain end o left' (holds script) held') is.left_is (subst (λ (o : Option (List ℕ)). RunGives plain end left left' o held') sis'.left_is gives) in
     answered input script output holds p0 p6 f0 f6 end s files shut said told at_end script_end
     (cause_zero (Err stop.InputFault) n n' end is.no_faults c1) (cause_zero (Err stop.ScriptFault) m m' end sis'.no_faults c2) (cause_zero (Err stop.WriteFault) k k' end cis.no_faults c3)
 
@@ -225,7 +225,7 @@ complete_loop input script output holds before after faults faults' i s (status.
     absurd (read_risen name f still a.2)
   where
     read_risen : (name : Named) (f : Files) → AllByRecursion (λ past. faults_of past ≡ 0) (news_of input script output holds f)
-        → ((name ≡ Word 1) × Rose 0 f.input_faults × Of input script output holds before after f (UpToNextOrNot plain)) ⊎ ((name ≡ Word 2) × Rose 0 f.script_faults × IsNothing f.held) → ⊥
+        → ((name ≡ Word 1) × Rose 0 f.input_faults × Of input script output holds before after f (UpToNextOrNot plain f.input_left)) ⊎ ((name ≡ Word 2) × Rose 0 f.script_faults × IsNothing f.held) → ⊥
     read_risen name f still (inl x) = not_risen f.input_faults still.0 x.1
     read_risen name f still (inr x) = not_risen f.script_faults still.1.0 x.1
 complete_loop input script output holds before after faults faults' i s (status.WriteFault name) p q quiet a =

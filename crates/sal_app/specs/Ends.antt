@@ -3,11 +3,11 @@ use Rattle.std.specs.Prelude.{◌≡◌, ◌⊎◌, ℕ, List, [], Option, Some,
 use Rattle.sal_codec.specs.Coding.{Coding}
 use Rattle.sal_y4m.specs.declared.head.Head.{Head}
 use Rattle.sal_y4m.specs.Grammar.{header_at}
+use Rattle.sal_y4m.specs.Answers.{HeaderUnread}
 use Rattle.sal_script.specs.Numbered.{Numbered}
 use Rattle.sal_script.specs.Script.{script_of}
 use Rattle.sal_run.specs.Clip.{End, Done, BadInput, BadScript, TooMany, TooLong}
-use Rattle.sal_world.specs.Promises.{Names, NothingIsLeft, AllIsServed}
-use Rattle.sal_run.specs.Loop.{clip_run, loop_end, loop_out}
+use Rattle.sal_run.specs.Loop.{loop_end, loop_out}
 use Rattle.sal_run.specs.Ends.{Partly, UpToNext, Cut}
 use Rattle.sal_app.specs.declared.status.Stop.{Stop}
 use Rattle.sal_app.specs.declared.status.Stop.TheVariants as stop
@@ -31,33 +31,28 @@ module _ {S : Type 0} (codec : Coding S) where
   abbrev pub SoFarOrNot : List ℕ → List ℕ → List ℕ → Type 0
   SoFarOrNot i s o = (o ≡ []) ⊎ OfRun (λ head lines body. Partly codec head lines body o) i s
 
-  -- the same, of events after which a picture is started next, or none is any more
-  abbrev pub UpToNextOrNot : List ℕ → List ℕ → List ℕ → Type 0
-  UpToNextOrNot i s o = (o ≡ []) ⊎ OfRun (λ head lines body. UpToNext codec head lines body o) i s
+  -- OUT holds nothing, and IN, of which this is left, wasn't read past its header line; or it holds the header and the pictures shown
+  -- by events after which a picture is started next, by those of the lines up to a `rest`, or by all
+  abbrev pub UpToNextOrNot : Option (List ℕ) → List ℕ → List ℕ → List ℕ → Type 0
+  UpToNextOrNot left i s o = ((o ≡ []) × HeaderUnread (Some i) left) ⊎ OfRun (λ head lines body. UpToNext codec head lines body o) i s
 
   -- OUT holds a front of what some events make it hold
   abbrev pub CutOff : List ℕ → List ℕ → List ℕ → Type 0
   CutOff i s o = OfRun (λ head lines body. Cut codec head lines body o) i s
 
-  -- what a run gives
-  abbrev pub RunGives : Result (Unit {0}) Stop → Option (List ℕ) → Option (List ℕ) → Option (List ℕ) → Type 0
-  RunGives (Ok x) i s o = Ends Done i s o
-  RunGives (Err (stop.BadInput place why)) i s o = Ends (BadInput place why) i s o
-  RunGives (Err (stop.BadScript line)) i s o = Ends (BadScript line) i s o
-  RunGives (Err stop.TooMany) i s o = Ends TooMany i s o
-  RunGives (Err stop.TooLong) i s o = Ends TooLong i s o
-  RunGives (Err stop.InputFault) i s o = Told i s o UpToNextOrNot
-  RunGives (Err stop.ScriptFault) i s o = IsNothing o
-  RunGives (Err stop.WriteFault) i s o = Told i s o CutOff
-  RunGives (Err stop.Memory) i s o = Told i s o SoFarOrNot
+  -- what a run gives, of what IN had left before and after
+  abbrev pub RunGives : Result (Unit {0}) Stop → Option (List ℕ) → Option (List ℕ) → Option (List ℕ) → Option (List ℕ) → Type 0
+  RunGives (Ok x) i left s o = Ends Done i s o
+  RunGives (Err (stop.BadInput place why)) i left s o = Ends (BadInput place why) i s o
+  RunGives (Err (stop.BadScript line)) i left s o = Ends (BadScript line) i s o
+  RunGives (Err stop.TooMany) i left s o = Ends TooMany i s o
+  RunGives (Err stop.TooLong) i left s o = Ends TooLong i s o
+  RunGives (Err stop.InputFault) i left s o = Told i s o (UpToNextOrNot left)
+  RunGives (Err stop.ScriptFault) i left s o = IsNothing o
+  RunGives (Err stop.WriteFault) i left s o = Told i s o CutOff
+  RunGives (Err stop.Memory) i left s o = Told i s o SoFarOrNot
 
 -- what was read is read to its end where all went well
 abbrev pub AtEnd : Result (Unit {0}) Stop → Option (List ℕ) → Type 0
 AtEnd (Ok x) left = IsNothing left
 AtEnd (Err why) left = Unit {0}
-
--- the run of these lines leaves no frame that waits to be decoded or is out; where names differ, each frame that was ready was then
--- shown, or a number at least as great was
-pub record LeavesNothing {S : Type 0} (codec : Coding S) (head : Head) (lines : List Numbered) (bytes : List ℕ) : Type 0 where
-  pub left : NothingIsLeft codec (clip_run codec head bytes lines).0.world.receiver
-  pub served : Names codec (clip_run codec head bytes lines).0.world → AllIsServed codec (clip_run codec head bytes lines).0.world.receiver

@@ -6,6 +6,7 @@ use Rattle.sal_y4m.specs.declared.fault.Why.TheVariants.{Form}
 use Rattle.sal_y4m.specs.declared.fault.Y4mFault.{Y4mFault}
 use Rattle.sal_y4m.specs.declared.fault.Y4mFault.TheVariants as y4m
 use Rattle.sal_y4m.specs.Grammar.{header_at}
+use Rattle.sal_y4m.specs.Answers.{HeaderUnread}
 use Rattle.sal_script.specs.declared.fault.ScriptFault.{ScriptFault}
 use Rattle.sal_script.specs.declared.fault.ScriptFault.TheVariants as script
 use Rattle.sal_script.specs.Numbered.{Numbered}
@@ -52,11 +53,11 @@ LinesGive left left' (Err stop.WriteFault) = ⊥
 LinesGive left left' (Err stop.TooLong) = ⊥
 LinesGive left left' (Err stop.TooMany) = ⊥
 
--- what was left begins with this header; or with none
+-- what was left begins with this header; or with none; or its line wasn't read whole
 abbrev pub HeadGives : Option (List ℕ) → Option (List ℕ) → Head → Result (Unit {0}) Stop → Type 0
 HeadGives left left' head (Ok x) = ReadsAs header_at left left' head
 HeadGives left left' head (Err (stop.BadInput place why)) = Lacks header_at left × (place ≡ 0) × (why ≡ Form)
-HeadGives left left' head (Err stop.InputFault) = Unit {0}
+HeadGives left left' head (Err stop.InputFault) = HeaderUnread left left'
 HeadGives left left' head (Err (stop.BadScript line)) = ⊥
 HeadGives left left' head (Err stop.ScriptFault) = ⊥
 HeadGives left left' head (Err stop.WriteFault) = ⊥

@@ -19,9 +19,9 @@ use Rattle.sal_script.specs.Numbered.{Numbered}
 use Rattle.sal_script.specs.Script.{script_of}
 use Rattle.sal_run.specs.Clip.{End, Done, BadInput, BadScript, TooMany, TooLong}
 use Rattle.sal_run.specs.Loop.{loop_end}
-use Rattle.sal_run.specs.Ends.{KeepsPromises}
+use Rattle.sal_run.specs.Ends.{KeepsPromises, LeavesNothing}
 use Rattle.sal_app.specs.Stops.{IsNothing}
-use Rattle.sal_app.specs.Ends.{Told, Ends, SoFarOrNot, UpToNextOrNot, CutOff, LeavesNothing}
+use Rattle.sal_app.specs.Ends.{Told, Ends, SoFarOrNot, UpToNextOrNot, CutOff}
 
 -- what is known of IN, SCRIPT and OUT as they were shut: what the sources had left, what the sink holds, and the counts
 -- of faults
@@ -74,10 +74,10 @@ module _ (input script output : List ℕ) (holds : List ℕ → Option (List ℕ
   LoopAnswers faults faults' (status.BadScript line) = Ended (BadScript line)
   LoopAnswers faults faults' status.TooLong = Ended TooLong
   LoopAnswers faults faults' status.TooMany = Ended TooMany
-  -- the count of that source rose from 0; OUT holds nothing, or what events make it hold after which a picture is started next, or
-  -- none is any more
+  -- the count of that source rose from 0; OUT holds nothing, where the header of IN wasn't read, or what events make it hold after
+  -- which a picture is started next, those of the lines up to a `rest`, or all
   LoopAnswers faults faults' (status.ReadFault name) =
-      (f : Files) × Shut f × (((name ≡ Word 1) × Rose 0 f.input_faults × Of f (UpToNextOrNot plain)) ⊎ ((name ≡ Word 2) × Rose 0 f.script_faults × IsNothing f.held))
+      (f : Files) × Shut f × (((name ≡ Word 1) × Rose 0 f.input_faults × Of f (UpToNextOrNot plain f.input_left)) ⊎ ((name ≡ Word 2) × Rose 0 f.script_faults × IsNothing f.held))
   -- the count of OUT rose from 0, and it holds a front of what some events make it hold
   LoopAnswers faults faults' (status.WriteFault name) = (f : Files) × Shut f × (name ≡ Word 3) × Rose 0 f.out_faults × Of f (CutOff plain)
   LoopAnswers faults faults' (status.OpenFault name) = Rose faults faults' × FirstUnopened name

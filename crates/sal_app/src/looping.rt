@@ -102,7 +102,7 @@ pub fn run_loop<C: Codec, S: Source, T: Source, K: Sink>(
     requires fresh { pictures.old.kept ≡ None }
     requires open { out.old.failed ≡ false }
     requires nothing { IsNothing (K.held out.old.sink) }
-    ensures gives { RunGives C.coding result (S.left pictures.old.source) (T.left script.old) (K.held out.new.sink) }
+    ensures gives { RunGives C.coding result (S.left pictures.old.source) (S.left pictures.new.source) (T.left script.old) (K.held out.new.sink) }
     ensures end { AtEnd result (S.left pictures.new.source) }
     ensures script_end { AtEnd result (T.left script.new) }
     ensures cause { HasCause (Err Stop.InputFault) (S.faults pictures.old.source) (S.faults pictures.new.source) result }

@@ -2,7 +2,7 @@ use Rattle.sal_app.proofs.LoopLemmas.{script_stops, head_stops, ran, ran_to_end}
 use Rattle.sal_app.proofs.looping.run_loop.Goals as goal
 
 pub returns-in-Err-clause-gives : goal.returns-in-Err-clause-gives
-returns-in-Err-clause-gives g c = script_stops g.C.Codec.coding c.in-Err.stop _ _ (g.T.Source.left c.read_lines.new.script) _ c.requires.nothing c.in-Err.ensures.told
+returns-in-Err-clause-gives g c = script_stops g.C.Codec.coding c.in-Err.stop _ _ _ (g.T.Source.left c.read_lines.new.script) _ c.requires.nothing c.in-Err.ensures.told
 
 pub returns-in-Err-read_head-clause-gives : goal.returns-in-Err-read_head-clause-gives
 returns-in-Err-read_head-clause-gives g c =
@@ -11,7 +11,7 @@ returns-in-Err-read_head-clause-gives g c =
 
 pub returns-clause-gives : goal.returns-clause-gives
 returns-clause-gives g c =
-    ran g.C.Codec.coding c.run_alone-end.result c.run_stop.result c.read_head.new.pictures.head c.in-Ok.lines _ (g.S.Source.left c.read_head.new.pictures.source) _ (g.T.Source.left c.read_lines.new.script) _
+    ran g.C.Codec.coding c.run_alone-end.result c.run_stop.result c.read_head.new.pictures.head c.in-Ok.lines _ (g.S.Source.left c.read_head.new.pictures.source) _ _ (g.T.Source.left c.read_lines.new.script) _
     c.run_stop.ensures c.in_default.ensures.told c.in-Ok.ensures.told c.run_alone-end.ensures.gives
 
 pub returns-clause-end : goal.returns-clause-end
