@@ -1,5 +1,5 @@
 -- How much is taken at most, whatever the answer.
-use Rattle.std.proofs.Common.{◌≡◌, ℕ, ◌≤◌, ◌+◌, List, [], ◌∷◌, ◌++◌, length, take, Option, arith, le_refl, length-append, length-take-le}
+use Rattle.std.proofs.Common.{◌≡◌, ℕ, ◌≤◌, List, [], ◌∷◌, ◌++◌, length, take, Option, arith, le_refl, length-append, length-take-le}
 use Rattle.std.specs.Io.KnownBytes.{Consumes}
 use Rattle.sal_io.specs.declared.whole.Filled.{Filled}
 use Rattle.sal_io.specs.declared.whole.Filled.TheVariants as filled
