@@ -1,5 +1,5 @@
 -- The answers to frames that are decoded one after another, as bytes. Numbers have their high byte first.
-use Rattle.std.specs.Prelude.{◌≡◌, ℕ, List, [], ◌∷◌, ◌++◌, length, take, drop, nat_le, if◌then◌else◌, ◌⊎◌, Result, Ok, Err}
+use Rattle.std.specs.Prelude.{◌≡◌, ℕ, List, [], ◌∷◌, ◌++◌, length, take, drop, nat_le, if◌then◌else◌, ◌⊎◌, Option, Some, None, Result, Ok, Err}
 use Rattle.std.specs.Int.{to_be_bytes, w16, w32}
 use Rattle.sal_base.specs.declared.coding.Fault.{Fault}
 use Rattle.sal_base.specs.declared.coding.Fault.TheVariants.{Short, BadVersion, BadStart, ZeroSize, TooLarge, NoReference, FirstPart, Partition}
@@ -35,6 +35,16 @@ sample_bytes p = p.y.samples ++ p.u.samples ++ p.v.samples
 -- that it leads to, and the samples of Y, U and V
 abbrev pub decoded_bytes : Decoded StateData → List ℕ
 decoded_bytes d = (0 ∷ bit_of d.shown ∷ []) ++ picture_bytes d.picture ++ digest_of d.state ++ sample_bytes d.picture
+
+-- the answer to a frame
+abbrev pub answer_to : Result (Decoded StateData) Fault → List ℕ
+answer_to (Ok d) = decoded_bytes d
+answer_to (Err f) = fault_bytes f
+
+-- the state that a frame leads to, where it is decoded
+abbrev pub state_to : Result (Decoded StateData) Fault → Option StateData
+state_to (Ok d) = Some d.state
+state_to (Err f) = None
 
 -- the answer to a frame, and those that come after it where it is decoded
 abbrev pub answered : Result (Decoded StateData) Fault → (Decoded StateData → List ℕ) → List ℕ

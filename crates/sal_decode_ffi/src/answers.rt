@@ -1,7 +1,8 @@
 //! The answers to frames, as bytes.
 
 ghost use Rattle.std.specs.Prelude.{◌≡◌, ◌++◌, IfOk, OnOk};
-ghost use Rattle.sal_decode_ffi.specs.Answers.{answers_from, answers_of, decoded_bytes, fault_bytes, numbered};
+ghost use Rattle.sal_decode_ffi.specs.Answers.{answer_to, answers_from, answers_of, decoded_bytes, fault_bytes, numbered, state_to};
+ghost use Rattle.sal_decode.specs.Decode.{decode_of};
 
 use sal_base::{Bytes, DecodeFault, Decoded, Fault, Memory};
 use sal_decode::decode;
@@ -19,7 +20,6 @@ pub(crate) fn answers(alloc: Global, bytes: &[u8], lengths: &[u32]) -> Result<By
 }
 
 /// Adds the answers to frames of these lengths from a state on.
-#[tactic(auto, using(std::proofs::lemmas::List::take_min, std::proofs::lemmas::List::drop_min, std::proofs::Common::append_assoc), unfolding(crate::specs::Answers::answers_from))]
 fn put_answers(
     alloc: Global,
     state: State,
@@ -29,18 +29,35 @@ fn put_answers(
 ) -> Result<(), Memory>
     ensures { OnOk result (text.new.items ≡ text.old.items ++ answers_from state lengths.now bytes.now) }
 {
-    let Some((length, more)) = lengths.split_first() else {
-        return Ok(());
-    };
-    let (frame, rest) = bytes.split_at((*length as usize).min(bytes.len()));
+    let mut state = state;
+    let mut rest = bytes;
+    for size in lengths {
+        let (frame, after) = rest.split_at((*size as usize).min(rest.len()));
+        let Some(next) = put_answer(alloc, state, frame, text)? else {
+            return Ok(());
+        };
+        state = next;
+        rest = after;
+    }
+    Ok(())
+}
+
+/// Adds the answer to a frame, and gives the state that it leads to, where it is decoded.
+fn put_answer(
+    alloc: Global,
+    state: State,
+    frame: &[u8],
+    text: &mut Vec<u8>,
+) -> Result<Option<State>, Memory>
+    ensures put { OnOk result (text.new.items ≡ text.old.items ++ answer_to (decode_of state frame.now)) }
+    ensures next { IfOk result (λ next. next ≡ state_to (decode_of state frame.now)) }
+{
     match decode(alloc, &state, frame) {
-        Ok(decoded) => {
-            // The state and the picture go before the next frame is decoded.
-            drop(state);
-            let next = put_decoded(decoded, text)?;
-            put_answers(alloc, next, rest, more, text)
+        Ok(decoded) => Ok(Some(put_decoded(decoded, text)?)),
+        Err(DecodeFault::Bad(fault)) => {
+            put_fault(fault, text)?;
+            Ok(None)
         }
-        Err(DecodeFault::Bad(fault)) => put_fault(fault, text),
         Err(DecodeFault::Memory) => Err(Memory),
     }
 }
