@@ -6,8 +6,9 @@ use Rattle.std.specs.Option.{option_map}
 use Rattle.std.proofs.lemmas.List.{take_all, drop_all, append-nil, set_past}
 use Rattle.sal_base.specs.Names.{same}
 use Rattle.sal_receiver.specs.declared.pending.Stage.{Stage}
+use Rattle.sal_receiver.specs.declared.pending.Stage.TheVariants.{Whole, Waits, Out}
 use Rattle.sal_receiver.specs.declared.pending.Pending.{Pending}
-use Rattle.sal_receiver.specs.Pending.{at, put_in, without, restaged, left_from, is_left, fed, fed_one, first_waiting, is_waiting, place_in, task_of, task_in, handed_out, out_first, Rises}
+use Rattle.sal_receiver.specs.Pending.{at, put_in, without, restaged, left_from, is_left, fed, fed_one, first_waiting, is_waiting, place_in, task_of, stage_task, task_in, handed_out, out_first, Rises}
 
 -- the frame, if the floor leaves it
 abbrev pub if_left : {T : Type 0} → ℕ → Option (Pending T) → Option (Pending T)
@@ -314,3 +315,17 @@ module _ {T : Type 0} where
   out_none ys [] r is found same = refl
   out_none ys (x ∷ xs) r is found same =
       sym (set_past (x ∷ xs) (first_index (x ∷ xs)) (handed_out (get_or (x ∷ xs) (first_index (x ∷ xs)) x)) (first_far (x ∷ xs) ys r is found same)) ∙ out_at x (x ∷ xs)
+
+  -- where no frame waits, none is handed out
+  stage_waits : (n : ℕ) (target : Rattle.sal_base.specs.declared.name.Name.Name) (stage : Stage T) → is_waiting stage ≡ true → None ≡ stage_task n target stage → ⊥
+  stage_waits n target (Whole bytes) waits e = let never : false ≡ true = waits in absurd cc
+  stage_waits n target (Waits source bytes) waits e = absurd cc
+  stage_waits n target Out waits e = let never : false ≡ true = waits in absurd cc
+
+  none_out_step : (b : Bool) (x : Pending T) (xs : List (Pending T)) → is_waiting x.stage ≡ b → (None ≡ task_in (first_waiting xs) → out_first xs ≡ xs) → None ≡ task_in (cond b (Some x) (first_waiting xs)) → cond b (handed_out x ∷ xs) (x ∷ out_first xs) ≡ x ∷ xs
+  none_out_step true x xs waits more e = absurd (stage_waits x.number x.target x.stage waits e)
+  none_out_step false x xs waits more e = ap (λ zs. x ∷ zs) (more e)
+
+  pub none_out : (xs : List (Pending T)) → None ≡ task_in (first_waiting xs) → out_first xs ≡ xs
+  none_out [] e = refl
+  none_out (x ∷ xs) e = none_out_step (is_waiting x.stage) x xs refl (none_out xs) e

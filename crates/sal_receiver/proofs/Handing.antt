@@ -248,6 +248,16 @@ module _ {S : Type 0} (codec : Coding S) where
         is.frame_is,
       )
 
+  no_task : {Z : Type 0} (task : Option (Task (Arc S Z))) (result : Option (Handed S)) → result ≡ option_map handed_as task → result ≡ None → task ≡ None
+  no_task None result is none = refl
+  no_task (Some task) result is none = absurd cc
+
+  -- where none was handed out, all is as it was
+  pub none_taken : {Z : Type 0} (r : Book S) (line : Rattle.sal_receiver.specs.declared.line.Line.Line) (slots : Rattle.sal_reasm.specs.Window.Window) (shelf : Rattle.sal_chain.specs.Shelf.Shelf S) (items new : List (Pending (Arc S Z))) (last : ℕ) (task : Option (Task (Arc S Z))) (result : Option (Handed S)) → book line slots shelf (map seen items) last ≡ r
+      → (task ≡ None → new ≡ items) → result ≡ option_map handed_as task → result ≡ None → book line slots shelf (map seen new) last ≡ r
+  none_taken r line slots shelf items new last task result view same is none =
+      ap (λ xs. book line slots shelf (map seen xs) last) (same (no_task task result is none)) ∙ view
+
   -- what was handed out is the frame of its number after that call too
   pub frame_handed : (past : List (Call S)) (answer : Option ℕ) (h : Handed S) → IsFrameOf codec past h → IsFrameOf codec (TakeReady answer ∷ past) h
   frame_handed past answer h is = record { target = is.target; source = Rattle.sal_receiver.proofs.Lasting.ready_same codec (TakeReady answer) past h.number refl refl ∙ is.source; bytes = is.bytes }

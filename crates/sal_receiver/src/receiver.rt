@@ -169,6 +169,7 @@ impl<C: Codec> Receiver<C> {
     /// Hands out the ready frame of the least number; it takes no memory.
     pub fn take_ready(&mut self) -> Option<Ready<C>>
         ensures answered { Answered C.coding (Stands C.coding) self.old self.new (TakeReady (option_map number_of result)) }
+        ensures alone { result ≡ None → self.new ≡ self.old }
         ensures frame { (past : List (Call C.State)) → Stands C.coding self.old past → IfSome result (IsFrameOf C.coding past) }
     {
         ready_of(take_first(&mut self.frames))

@@ -97,6 +97,7 @@ fn first_place<T>(items: &[Pending<T>]) -> Option<usize>
 pub(crate) fn take_first<T: Drop>(items: &mut Vec<Pending<T>>) -> Option<Task<T>>
     ensures task { result ≡ task_in (first_waiting items.old.items) }
     ensures out { items.new.items ≡ out_first items.old.items }
+    ensures alone { result ≡ None → items.new.items ≡ items.old.items }
 {
     match first_place(items.as_slice()) {
         Some(at) => items[at].hand_out(),
