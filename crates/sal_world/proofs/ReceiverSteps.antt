@@ -1,5 +1,5 @@
 -- What a call of the receiver makes of the world.
-use Rattle.std.proofs.Common.{◌≡◌, ℕ, Bool, true, false, cond, not, List, [], ◌∷◌, ◌++◌, length, map, Option, Some, None, is_some, Result, Ok, Err, IsTrue, refl, ap, sym, ◌∙◌, subst, ◌⊎◌, inl, inr}
+use Rattle.std.proofs.Common.{◌≡◌, ℕ, Bool, true, false, cond, not, List, [], ◌∷◌, ◌++◌, length, map, Option, Some, None, is_some, is_none, Result, Ok, Err, IsTrue, refl, ap, sym, ◌∙◌, subst, ◌⊎◌, inl, inr}
 use Rattle.std.specs.Prelude.{option_and_then, IfSome}
 use Rattle.std.specs.Option.{option_map}
 use Rattle.sal_base.specs.declared.coding.Fault.{Fault}
@@ -46,6 +46,10 @@ module _ {S : Type 0} where
   down_kept x b r texts answer said view same kept e alone =
       let whole : r ≡ x.receiver = kept (subst (λ a. IsLeftAlone a) (sym e) alone) in
       ap (λ (v : Book S). record x { receiver = v; acks = texts }) whole ∙ (ap (λ (ts : List (List ℕ)). record x { acks = ts }) same ∙ view)
+
+  pub ready_kept : (x b : Both S) (r : Book S) (frame : Option (Handed S)) → x ≡ b → (frame ≡ None → r ≡ x.receiver) → is_none frame ≡ true → record x { receiver = r } ≡ b
+  ready_kept x b r None view kept h = same_receiver x b r view (kept refl)
+  ready_kept x b r (Some frame) view kept h = absurd (cc)
 
   pub decoded_kept : (x b : Both S) (r : Book S) (answer : Done) → x ≡ b → (answer ≡ Stranger → r ≡ x.receiver) → is_unknown answer ≡ true → record x { receiver = r } ≡ b
   decoded_kept x b r Stranger view kept h = same_receiver x b r view (kept refl)

@@ -89,7 +89,7 @@ module _ {C S : Type 0} where
   chosen_said (Nothing budget sizes) = ChooseSaid (Nothing budget sizes)
   chosen_said ChosenMemory = Memory
 
-  -- whether an event was refused, or lacked memory
+  -- whether an event was refused, found nothing to hand out, or lacked memory
   abbrev pub is_refused : Answer C S → Bool
   is_refused (NextSaid answer) = not (starts answer)
   is_refused (TakeSaid job) = is_none job
@@ -98,7 +98,7 @@ module _ {C S : Type 0} where
   is_refused (SentSaid choice) = false
   is_refused (DownSaid answer) = is_left_alone answer
   is_refused (UpSaid answer) = is_ignored answer
-  is_refused (ReadySaid frame) = false
+  is_refused (ReadySaid frame) = is_none frame
   is_refused (DecodedSaid answer) = is_unknown answer
   is_refused (MomentSaid moment) = false
   is_refused (Unsent which last) = true

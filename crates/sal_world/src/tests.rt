@@ -1,5 +1,6 @@
-ghost use Rattle.std.specs.Prelude.{[]};
+ghost use Rattle.std.specs.Prelude.{[], List};
 ghost use Rattle.sal_sender.specs.OneThread.{Session};
+ghost use Rattle.sal_world.specs.World.{Event as EventOf};
 ghost use Rattle.sal_world.specs.Stands.{Stands};
 
 use super::*;
@@ -43,18 +44,19 @@ fn kind<C: Codec>(answer: &Answer<C>) -> First {
     }
 }
 
-// What a new world answers to a moment.
-fn passes<C: Codec>(mut world: World<C>, moment: u64) -> First
-    requires { (session : Session) × Stands C.coding session world [] }
-{
-    kind(&world.step(Event::Moment(moment)))
-}
-
-// What a new world answers where a job is asked for.
+// What a world answers where a job is asked for.
 fn takes<C: Codec>(mut world: World<C>) -> First
-    requires { (session : Session) × Stands C.coding session world [] }
+    requires { (session : Session) × ((events : List EventOf) × Stands C.coding session world events) }
 {
     kind(&world.step(Event::Take))
+}
+
+// What a new world answers to a moment, and then where a job is asked for.
+fn passes_and_takes<C: Codec>(mut world: World<C>, moment: u64) -> (First, First)
+    requires { (session : Session) × Stands C.coding session world [] }
+{
+    let passed = kind(&world.step(Event::Moment(moment)));
+    (passed, takes(world))
 }
 
 // What a new world answers where a frame is asked for.
@@ -64,17 +66,10 @@ fn hands_out<C: Codec>(mut world: World<C>) -> First
     kind(&world.step(Event::Ready))
 }
 
-fn first_moment<C: Codec>(alloc: Global, codec: C, moment: u64) -> First {
+fn first_moment<C: Codec>(alloc: Global, codec: C, moment: u64) -> (First, First) {
     match World::new(alloc, codec, HEAD) {
-        Ok(world) => passes(world, moment),
-        Err(_) => First::Other,
-    }
-}
-
-fn first_job<C: Codec>(alloc: Global, codec: C) -> First {
-    match World::new(alloc, codec, HEAD) {
-        Ok(world) => takes(world),
-        Err(_) => First::Other,
+        Ok(world) => passes_and_takes(world, moment),
+        Err(_) => (First::Other, First::Other),
     }
 }
 
@@ -96,8 +91,9 @@ fn before_anything_is_sent(rt: HostRuntime) -> Result<(), Fail> {
 #[test]
 fn before_any_picture(rt: HostRuntime) -> Result<(), Fail> {
     let alloc = rt.alloc();
-    assert_eq!(rt; first_moment(alloc, Plain, 5), First::Moment(5));
-    assert_eq!(rt; first_job(alloc, Plain), First::NoJob);
+    let (moment, job) = first_moment(alloc, Plain, 5);
+    assert_eq!(rt; moment, First::Moment(5));
+    assert_eq!(rt; job, First::NoJob);
     assert_eq!(rt; first_frame(alloc, Plain), First::NoFrame);
     Ok(())
 }

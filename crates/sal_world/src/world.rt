@@ -295,8 +295,8 @@ impl<C: Codec> World<C> {
     ///
     /// Pictures have the session's size, and a report or a decoding is of what this world handed out. The answer is that
     /// of the end that is called, but that the datagrams of a choice go to the list of those sent. `Unsent` has the number
-    /// that was named and the last one there is. A refusal changes nothing, and neither does want of memory, which comes only
-    /// where a picture is started, at a choice, and at a datagram that there is.
+    /// that was named and the last one there is. A refusal changes nothing, nor does a question that finds no job or no frame,
+    /// nor want of memory, which comes only where a picture is started, at a choice, and at a datagram that there is.
     pub fn step(&mut self, event: Event<C>) -> Answer<C>
         requires may { (session : Session) × ((events : List EventOf) × (Stands C.coding session self.old events × May C.coding session events event)) }
         ensures answered { (session : Session) (events : List EventOf) → Stands C.coding session self.old events → May C.coding session events event → Stepped C.coding session self.new events event result }

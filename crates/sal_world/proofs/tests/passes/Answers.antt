@@ -1,5 +1,0 @@
-use Rattle.std.proofs.Common.{[]}
-use Rattle.sal_world.proofs.tests.passes.Goals as goal
-
-pub step-requires-clause-may : goal.step-requires-clause-may
-step-requires-clause-may g c κs within = (c.requires.0, ([], (c.requires.1, tt)))
