@@ -13,14 +13,19 @@ use std::test::Fail;
 const HEADER: &[u8] = b"YUV4MPEG2 W16 H16\n";
 
 // A picture of luma 128 and one of luma 90 have these names as states.
-const NAME_128: Name =
-    Name([0xcd, 0xec, 0x5b, 0x78, 0xf0, 0x8d, 0xb2, 0xcf, 0, 0, 0, 0, 0, 0, 0, 0]);
-const NAME_90: Name =
-    Name([0x43, 0x8b, 0x65, 0x0e, 0x7a, 0xc7, 0xfc, 0xfd, 0, 0, 0, 0, 0, 0, 0, 0]);
+const NAME_128: Name = Name([
+    0xcd, 0xec, 0x5b, 0x78, 0xf0, 0x8d, 0xb2, 0xcf, 0, 0, 0, 0, 0, 0, 0, 0,
+]);
+
+const NAME_90: Name = Name([
+    0x43, 0x8b, 0x65, 0x0e, 0x7a, 0xc7, 0xfc, 0xfd, 0, 0, 0, 0, 0, 0, 0, 0,
+]);
 
 // A key frame of luma 128, one of luma 90, and an inter frame of that.
 const KEY_128: ReportSize = ReportSize::Frame(389, NAME_128);
+
 const KEY_90: ReportSize = ReportSize::Frame(389, NAME_90);
+
 const INTER_90: ReportSize = ReportSize::Frame(385, NAME_90);
 
 // What a line says.
@@ -293,7 +298,16 @@ fn an_acknowledgement_that_comes_again_is_old(rt: HostRuntime) -> Result<(), Fai
         Note::Choose(4, 11, 3, 1),
     ];
     let script = b"next\ndown 1\nnext\ndown 2\nup 2\nnext\ndown 3\nup 3\nnext\nup 2\n";
-    assert!(rt; gives(rt.alloc(), &[128; 4], script, false, &first, &[Note::Up(2, true)])?);
+    assert!(rt;
+        gives(
+            rt.alloc(),
+            &[128; 4],
+            script,
+            false,
+            &first,
+            &[Note::Up(2, true)]
+        )?
+    );
     Ok(())
 }
 
@@ -301,7 +315,16 @@ fn an_acknowledgement_that_comes_again_is_old(rt: HostRuntime) -> Result<(), Fai
 fn the_fine_job_comes_after_the_choice(rt: HostRuntime) -> Result<(), Fail> {
     let first = [Note::Choose(1, 1, 0, 1)];
     let then = [Note::Report(2, KEY_128, true), Note::Decoded(1, true)];
-    assert!(rt; gives(rt.alloc(), &[128], b"next late\ndownall\n", false, &first, &then)?);
+    assert!(rt;
+        gives(
+            rt.alloc(),
+            &[128],
+            b"next late\ndownall\n",
+            false,
+            &first,
+            &then
+        )?
+    );
     Ok(())
 }
 
@@ -319,7 +342,16 @@ fn a_window_that_is_full(rt: HostRuntime) -> Result<(), Fail> {
     assert!(rt; gives(alloc, &[128; 17], FULL_SCRIPT, false, &WINDOW, &nothing)?);
     // after half a second nothing counts as in flight, and a key frame is sent
     let key = [Note::Choose(17, 49, 0, 1)];
-    assert!(rt; gives(alloc, &[128; 17], HALF_A_SECOND_SCRIPT, false, &WINDOW, &key)?);
+    assert!(rt;
+        gives(
+            alloc,
+            &[128; 17],
+            HALF_A_SECOND_SCRIPT,
+            false,
+            &WINDOW,
+            &key
+        )?
+    );
     Ok(())
 }
 
@@ -371,8 +403,17 @@ fn no_line_is_given_after_a_fault(rt: HostRuntime) -> Result<(), Fail> {
     for at in 1..9u32 {
         assert_eq!(rt; stopped(alloc, at, DiaryFault::Failed)?, (failed, at));
     }
-    assert_eq!(rt; stopped(alloc, 9, DiaryFault::Failed)?, (Some(RunEnd::Ok), 8));
-    assert_eq!(rt; stopped(alloc, 4, DiaryFault::TooLong)?, (Some(RunEnd::TooLong), 4));
-    assert_eq!(rt; stopped(alloc, 4, DiaryFault::Memory)?, (Some(RunEnd::Memory), 4));
+    assert_eq!(rt;
+        stopped(alloc, 9, DiaryFault::Failed)?,
+        (Some(RunEnd::Ok), 8)
+    );
+    assert_eq!(rt;
+        stopped(alloc, 4, DiaryFault::TooLong)?,
+        (Some(RunEnd::TooLong), 4)
+    );
+    assert_eq!(rt;
+        stopped(alloc, 4, DiaryFault::Memory)?,
+        (Some(RunEnd::Memory), 4)
+    );
     Ok(())
 }
