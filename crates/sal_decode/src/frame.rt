@@ -73,7 +73,7 @@ fn decode_frame(
     )
 }
 
-/// Decodes a frame: the next state, the picture cut to its size, and whether it is shown (RFC 6386, sections 9 to 20).
+/// Decodes a frame: the next state, the picture cut to its size, and whether it is shown (RFC 6386, sections 9 to 19).
 ///
 /// `Bad` has the first fault of the bytes, in the order in which a decoder meets them, exactly where there is one: it is met before
 /// any memory is taken. Past the end of a partition there are zeros, so nothing but the faults of tag, size and partitions refuses
