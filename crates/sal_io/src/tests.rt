@@ -1,3 +1,5 @@
+ghost use Rattle.std.specs.Prelude.{◌≡◌, ◌+◌, ◌<◌, length, OnOk, OnErr};
+
 use super::*;
 use sal_base::Bytes;
 use std::alloc::{AllocError, Global};
@@ -17,6 +19,33 @@ fn file(alloc: Global, name: &[u8], failing: &[u64]) -> Result<MemFile, AllocErr
         bytes: Bytes::from_slice(alloc, name)?,
         failing: Vec::from_slice(alloc, failing)?,
     })
+}
+
+// The calls of sources, sinks and shelves as generic code makes them.
+fn took<S: Source>(source: &mut S, buf: &mut [u8]) -> Took
+    requires { 0 < length buf.old }
+{
+    source.read(buf)
+}
+
+fn wrote<K: Sink>(sink: &mut K, bytes: &[u8]) -> Wrote
+    requires { 0 < length bytes.now }
+{
+    sink.write(bytes)
+}
+
+fn opened<F: Shelf>(files: &mut F, alloc: Global, name: &str) -> Result<F::In, ShelfFault>
+    ensures spare { OnOk result (F.spare files.new ≡ F.spare files.old + 1) }
+    ensures kept { OnErr result (F.spare files.new ≡ F.spare files.old) }
+{
+    files.open(alloc, name)
+}
+
+fn created<F: Shelf>(files: &mut F, alloc: Global, name: &str) -> Result<F::Out, ShelfFault>
+    ensures spare { OnOk result (F.spare files.new ≡ F.spare files.old + 1) }
+    ensures kept { OnErr result (F.spare files.new ≡ F.spare files.old) }
+{
+    files.create(alloc, name)
 }
 
 #[test]
@@ -69,21 +98,21 @@ fn shelf_in_memory(rt: HostRuntime) -> Result<(), Fail> {
     let mut host = Host {
         files: MemShelf::new(alloc, files, Vec::from_slice(alloc, &[3])?),
     };
-    let Ok(mut input) = host.files.open(alloc, "clip") else {
+    let Ok(mut input) = opened(&mut host.files, alloc, "clip") else {
         panic!(rt; "not opened");
     };
-    let Ok(mut output) = host.files.create(alloc, "out") else {
+    let Ok(mut output) = created(&mut host.files, alloc, "out") else {
         panic!(rt; "not created");
     };
-    assert!(rt; host.files.open(alloc, "clip").is_err());
+    assert!(rt; opened(&mut host.files, alloc, "clip").is_err());
     assert_eq!(rt; host.files.faults(), 1);
-    assert!(rt; host.files.open(alloc, "absent").is_err());
+    assert!(rt; opened(&mut host.files, alloc, "absent").is_err());
     assert_eq!(rt; host.files.faults(), 2);
     let mut word = [0u8; 4];
-    assert_eq!(rt; input.read(&mut word), Took::Got(4));
+    assert_eq!(rt; took(&mut input, &mut word), Took::Got(4));
     assert_eq!(rt; word, *b"clip");
-    assert_eq!(rt; input.read(&mut word), Took::Failed);
-    assert_eq!(rt; input.read(&mut word), Took::End);
+    assert_eq!(rt; took(&mut input, &mut word), Took::Failed);
+    assert_eq!(rt; took(&mut input, &mut word), Took::End);
     assert_eq!(rt;
         put_parts(&mut output, &[b"ab", b"", b"c", b"d"]),
         Put::Failed
@@ -106,14 +135,14 @@ fn adapters_over_std(rt: HostRuntime) -> Result<(), Fail> {
     let alloc = rt.alloc();
     let mut input = StdSource::new(Bytes::new(alloc), b"abc".as_slice());
     let mut word = [0u8; 2];
-    assert_eq!(rt; input.read(&mut word), Took::Got(2));
-    assert_eq!(rt; input.read(&mut word), Took::Got(1));
-    assert_eq!(rt; input.read(&mut word), Took::End);
+    assert_eq!(rt; took(&mut input, &mut word), Took::Got(2));
+    assert_eq!(rt; took(&mut input, &mut word), Took::Got(1));
+    assert_eq!(rt; took(&mut input, &mut word), Took::End);
     assert_eq!(rt; (word, input.faults()), (*b"cb", 0));
     let mut room = [0u8; 2];
     let mut output = StdSink::new(Bytes::new(alloc), room.as_mut_slice());
-    assert_eq!(rt; output.write(b"abc"), Wrote::Wrote(2));
-    assert_eq!(rt; output.write(b"c"), Wrote::Failed);
+    assert_eq!(rt; wrote(&mut output, b"abc"), Wrote::Wrote(2));
+    assert_eq!(rt; wrote(&mut output, b"c"), Wrote::Failed);
     assert_eq!(rt; output.faults(), 1);
     drop(output);
     assert_eq!(rt; room, *b"ab");
