@@ -3,7 +3,7 @@
 ghost use Rattle.std.specs.Prelude.{◌≡◌, ◌≤◌, ◌+◌, ◌-◌, ◌*◌, ◌^◌, ℕ, [], ◌∷◌, ◌++◌, length, take, drop, replicate, slice_index_or, Ok, Err, IfOk, IfErr};
 ghost use Rattle.sal_header.specs.Tags.{head_length, parts_of, placed, bytes_at, parts_start, AreInside};
 
-use crate::tag::{Tag, head_length, three_bytes};
+use crate::tag::{Tag, head_length, number_at};
 use sal_base::Fault;
 
 /// The place and length of each token partition, in the order of their indexes.
@@ -71,7 +71,7 @@ fn put_sized(
 {
     let mut place = table + 3 * sized;
     for k in 0..sized {
-        let size = three_bytes(bytes, table + 3 * k) as usize;
+        let size = number_at(bytes, table + 3 * k) as usize;
         if bytes.len().saturating_sub(place) < size {
             return Err(Fault::Partition(k as u8));
         }

@@ -322,14 +322,7 @@ fn header_made(
 ) -> Header
     ensures { result ≡ header_made tag.now.key tag.now.shown colour clamping segments.now filtering.now log2 quantisers.now refreshing.now coefficients modes.now }
 {
-    let segment_quantisers = segments.data.quantisers;
-    let segment_levels = segments.data.levels;
-    let map = segments.map;
-    let ref_deltas = filtering.deltas.references;
-    let mode_deltas = filtering.deltas.modes;
-    let vectors = modes.inter.vectors;
-    let y = modes.inter.y;
-    let chroma = modes.inter.chroma;
+    let updates = updates_made(coefficients, &modes.inter);
     Header {
         key: tag.key,
         shown: tag.shown,
@@ -349,11 +342,11 @@ fn header_made(
         bias_alt: refreshing.bias_alt,
         refresh_last: refreshing.last,
         skips: modes.skips,
-        quantisers: segment_quantisers,
-        levels: segment_levels,
-        ref_deltas,
-        mode_deltas,
-        map,
+        quantisers: segments.data.quantisers,
+        levels: segments.data.levels,
+        ref_deltas: filtering.deltas.references,
+        mode_deltas: filtering.deltas.modes,
+        map: segments.map,
         level: filtering.level,
         sharpness: filtering.sharpness,
         log2,
@@ -369,11 +362,18 @@ fn header_made(
         y2_ac: quantisers.y2_ac,
         uv_dc: quantisers.uv_dc,
         uv_ac: quantisers.uv_ac,
-        updates: Updates {
-            coefficients,
-            vectors,
-            y,
-            chroma,
-        },
+        updates,
+    }
+}
+
+// A header's updates of probabilities.
+fn updates_made(coefficients: [Option<u8>; 1056], modes: &InterModes) -> Updates
+    ensures { result ≡ record { coefficients = coefficients; vectors = modes.now.vectors; y = modes.now.y; chroma = modes.now.chroma } }
+{
+    Updates {
+        coefficients,
+        vectors: modes.vectors,
+        y: modes.y,
+        chroma: modes.chroma,
     }
 }

@@ -9,12 +9,15 @@ use sal_base::Fault;
 /// The frame tag, and the sides of a key frame.
 #[derive(Clone, Copy, Debug, PartialEq, Eq)]
 pub struct Tag {
+    /// Whether the frame is a key frame, which needs no other to be decoded.
     pub key: bool,
+    /// Whether the frame is to be shown.
     pub shown: bool,
-    /// The length of the first partition, below 524,288.
+    /// The length of the first partition, in bytes: below 524,288.
     pub size: u32,
-    /// In samples of luma; the sides are 0 on an inter frame.
+    /// In samples of luma, 1 to 1,280 on a key frame; 0 on an inter frame.
     pub width: u16,
+    /// In samples of luma, 1 to 720 on a key frame; 0 on an inter frame.
     pub height: u16,
 }
 
@@ -29,7 +32,7 @@ pub fn read_tag(bytes: &[u8]) -> Result<Tag, Fault>
     if bytes.len() < 3 {
         return Err(Fault::Short);
     }
-    let word = three_bytes(bytes, 0);
+    let word = number_at(bytes, 0);
     let version = (word / 2 % 8) as u8;
     if version != 0 {
         return Err(Fault::BadVersion(version));
@@ -96,7 +99,7 @@ fn side(bytes: &[u8], at: usize) -> u16
 }
 
 // Three bytes as a number, lowest first.
-pub(crate) fn three_bytes(bytes: &[u8], at: usize) -> u32
+pub(crate) fn number_at(bytes: &[u8], at: usize) -> u32
     requires { at + 3 ≤ length bytes.now }
     ensures value { result ≡ little 3 bytes.now at }
     ensures small { result < 16777216 }

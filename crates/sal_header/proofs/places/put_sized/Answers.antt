@@ -10,16 +10,16 @@ pub loop-k-preserved : goal.loop-k-preserved
 loop-k-preserved c = record {
   long = length-set c.loop-k.at c.loop-k.k _ ∙ c.loop-k.invariant.long;
   others = λ n le. drop-set-lt n c.loop-k.at c.loop-k.k _ (omega (arith, le, c.loop-k-test.true)) ∙ c.loop-k.invariant.others n le;
-  near = omega (arith, c.loop-k.invariant.near, c.three_bytes-size.ensures.small);
+  near = omega (arith, c.loop-k.invariant.near, c.number_at-size.ensures.small);
   inside = λ le.
       let before = c.loop-k.invariant.inside le in
-      let here : c.loop-k.place + c.three_bytes-size.result ≤ length c.args.bytes.now = let a = before.0 in omega (arith, a, c.if-saturating_sub-size.false, c.saturating_sub.ensures) in
-      (here, inside_more (length c.args.bytes.now) c.loop-k.k c.loop-k.place c.three_bytes-size.result c.loop-k.at (omega (arith, c.loop-k.invariant.long, c.requires.few, c.loop-k-test.true)) here before.1);
-  parts = next_placed c.args.bytes.now c.args.table c.loop-k.k c.args.sized c.loop-k.place c.three_bytes-size.result c.loop-k.at _ c.loop-k-test.true (omega (arith, c.loop-k.invariant.long, c.requires.few, c.loop-k-test.true)) c.three_bytes-size.ensures.value (omega (arith, c.if-saturating_sub-size.false, c.saturating_sub.ensures)) c.loop-k.invariant.parts;
+      let here : c.loop-k.place + c.number_at-size.result ≤ length c.args.bytes.now = let a = before.0 in omega (arith, a, c.if-saturating_sub-size.false, c.saturating_sub.ensures) in
+      (here, inside_more (length c.args.bytes.now) c.loop-k.k c.loop-k.place c.number_at-size.result c.loop-k.at (omega (arith, c.loop-k.invariant.long, c.requires.few, c.loop-k-test.true)) here before.1);
+  parts = next_placed c.args.bytes.now c.args.table c.loop-k.k c.args.sized c.loop-k.place c.number_at-size.result c.loop-k.at _ c.loop-k-test.true (omega (arith, c.loop-k.invariant.long, c.requires.few, c.loop-k-test.true)) c.number_at-size.ensures.value (omega (arith, c.if-saturating_sub-size.false, c.saturating_sub.ensures)) c.loop-k.invariant.parts;
 }
 
 pub returns-then-saturating_sub-size-clause-fault : goal.returns-then-saturating_sub-size-clause-fault
-returns-then-saturating_sub-size-clause-fault c = placed_past c.args.bytes.now c.args.table c.loop-k.k c.args.sized c.loop-k.place c.three_bytes-size.result _ _ c.loop-k-test.true c.three_bytes-size.ensures.value (omega (arith, c.if-saturating_sub-size.true, c.saturating_sub.ensures)) c.loop-k.invariant.parts
+returns-then-saturating_sub-size-clause-fault c = placed_past c.args.bytes.now c.args.table c.loop-k.k c.args.sized c.loop-k.place c.number_at-size.result _ _ c.loop-k-test.true c.number_at-size.ensures.value (omega (arith, c.if-saturating_sub-size.true, c.saturating_sub.ensures)) c.loop-k.invariant.parts
 
 pub returns-clause-parts : goal.returns-clause-parts
 returns-clause-parts c = placed_last c.args.bytes.now c.args.table c.loop-k.k c.args.sized c.loop-k.place c.loop-k.at _ c.loop-k-test.false c.loop-k.auto.k-end c.loop-k.invariant.parts
