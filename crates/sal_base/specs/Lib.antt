@@ -1,4 +1,5 @@
 pub mod Digits
+pub mod Kinds
 pub mod Lending
 pub mod Lists
 pub mod Names

@@ -1,8 +1,8 @@
 -- The words on what is kept speak of shares as of what they share.
-use Rattle.std.proofs.Common.{◌≡◌, ℕ, Bool, true, false, cond, List, [], ◌∷◌, length, map, refl, ap, ◌∙◌, sym, arith, ltb, leb, eqb}
+use Rattle.std.proofs.Common.{◌≡◌, ℕ, Bool, true, false, cond, List, [], ◌∷◌, map, refl, ap, ◌∙◌, ltb, leb, eqb}
 use Rattle.std.specs.Option.{option_map}
 use Rattle.std.specs.declared.option.Option.{Option}
-use Rattle.std.specs.declared.option.Option.TheVariants.{Some, None}
+use Rattle.std.specs.declared.option.Option.TheVariants.{Some}
 use Rattle.std.specs.declared.sync.Arc.{Arc}
 use Rattle.sal_base.specs.Names.{same}
 use Rattle.sal_base.specs.declared.name.Name.{Name}

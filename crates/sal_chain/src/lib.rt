@@ -2,11 +2,9 @@
 #![tactic(auto)]
 
 mod kept;
-mod labels;
 mod rows;
 mod store;
 
-pub use labels::Labels;
 pub use store::Store;
 
 #[cfg(test)]

@@ -5,8 +5,7 @@ ghost use Rattle.std.specs.Option.{option_copied};
 ghost use Rattle.sal_chain.specs.Held.{placed, from_floor, named, numbered, label, place_in};
 
 use crate::kept::Kept;
-use crate::labels::Labels;
-use sal_base::Name;
+use sal_base::{Labels, Name};
 
 /// The place of the first one with a higher number.
 fn first_above<T>(items: &[Kept<T>], number: u32) -> Option<usize>

@@ -8,9 +8,8 @@ ghost use Rattle.sal_chain.specs.Shares.{with_state, number_and_state, name_and_
 ghost use Rattle.sal_chain.specs.Shelf.{IsShelf, empty_shelf, raised};
 
 use crate::kept::Kept;
-use crate::labels::Labels;
 use crate::rows::{keep_from, labels, put, with_name, with_number};
-use sal_base::{Memory, Name};
+use sal_base::{Labels, Memory, Name};
 use sal_codec::Codec;
 use std::alloc::Global;
 use std::marker::Model;

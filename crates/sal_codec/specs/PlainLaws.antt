@@ -1,5 +1,5 @@
 -- What holds of the codec without compression.
-use Rattle.std.proofs.Common.{◌≡◌, ℕ, ◌+◌, ◌-◌, ◌*◌, ◌/◌, ◌%◌, ◌<◌, ◌≤◌, List, [], ◌∷◌, ◌++◌, length, take, drop, true, false, Option, Some, None, Ok, refl, ap, sym, subst, ◌∙◌, arith, ltb, append_assoc}
+use Rattle.std.proofs.Common.{◌≡◌, ℕ, ◌+◌, ◌-◌, ◌*◌, ◌/◌, ◌%◌, ◌<◌, ◌≤◌, List, [], ◌∷◌, ◌++◌, length, drop, true, false, Option, Some, None, Ok, refl, ap, sym, subst, ◌∙◌, arith, ltb}
 use Rattle.std.proofs.lemmas.Bool.{le-ltb}
 use Rattle.std.proofs.lemmas.Bool.Decides.{nat_tests}
 use Rattle.std.proofs.lemmas.List.{length-append, length-take, length-drop}
@@ -15,8 +15,8 @@ use Rattle.sal_base.specs.declared.coding.Kind.{Kind}
 use Rattle.sal_base.specs.declared.coding.Kind.TheVariants.{Key, Inter}
 use Rattle.sal_base.specs.declared.coding.Encoding.TheVariants.{Frame}
 use Rattle.sal_codec.specs.declared.raw.RawPicture.{RawPicture}
-use Rattle.sal_codec.specs.Coding.{MayEncode, IsFrame, HasSides, IsSound, IsLawful}
-use Rattle.sal_codec.specs.Raw.{IsRaw, samples_of, raw_of, picture_of, sample_count, luma_count, chroma_count}
+use Rattle.sal_codec.specs.Coding.{MayEncode, IsSound, IsLawful}
+use Rattle.sal_codec.specs.Raw.{IsRaw, samples_of, raw_of, picture_of, sample_count}
 use Rattle.sal_codec.specs.Plain.{pair, less, plus, sides_of, key_bytes, side_fault, count_fault, unless, sized, key_of, inter_of, raw_of_frame, sums, differences, moved, frame_of, led_to, shows, digest, Takes, Shows, plain}
 
 samples_long : (p : Picture) → IsPicture p → length (samples_of p) ≡ sample_count p.width p.height

@@ -1,5 +1,5 @@
 -- The samples around a block, part by part.
-use Rattle.std.proofs.Common.{◌≡◌, ◌∙◌, ◌<◌, ◌+◌, ◌==◌, ℕ, List, not, length, get_or, sym, ap}
+use Rattle.std.proofs.Common.{◌≡◌, ◌∙◌, ◌<◌, ◌+◌, ◌==◌, ℕ, List, not, length, get_or, ap}
 use Rattle.sal_base.specs.Samples.{listed}
 use Rattle.sal_intra.specs.declared.edge.LumaEdge.{LumaEdge}
 use Rattle.sal_intra.specs.declared.edge.ChromaEdge.{ChromaEdge}

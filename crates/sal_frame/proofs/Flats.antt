@@ -1,5 +1,5 @@
 -- Blocks of which only the first value isn't 0, transformed back.
-use Rattle.std.proofs.Common.{◌≡◌, ◌∙◌, ◌≤◌, ℕ, ℤ, pos, ◌+ℤ◌, ◌-ℤ◌, ◌*ℤ◌, List, [], ◌∷◌, get_or, replicate, slice_set, refl, sym, ap, arith, lit≤, lit<}
+use Rattle.std.proofs.Common.{◌≡◌, ◌∙◌, ◌≤◌, ℤ, pos, ◌+ℤ◌, ◌-ℤ◌, ◌*ℤ◌, List, [], ◌∷◌, get_or, replicate, slice_set, refl, ap, arith, lit≤, lit<}
 use Rattle.std.proofs.lemmas.Int.{ints}
 use Rattle.sal_base.specs.Samples.{listed_from}
 use Rattle.sal_tables.specs.Tables.{zigzag_of}

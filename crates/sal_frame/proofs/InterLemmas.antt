@@ -1,8 +1,7 @@
 -- Inter macroblocks in their places.
-use Rattle.std.proofs.Common.{◌≡◌, ◌∙◌, ◌+◌, ℕ, ℤ, pos, List, Bool, true, false, if◌then◌else◌, refl, sym, ap}
+use Rattle.std.proofs.Common.{◌≡◌, ◌∙◌, ◌+◌, ℕ, pos, List, Bool, true, false, if◌then◌else◌, sym, ap}
 use Rattle.sal_base.specs.declared.picture.Plane.{Plane}
-use Rattle.sal_macroblock.specs.declared.mode.MbMode.{MbMode}
-use Rattle.sal_macroblock.specs.Macroblocks.{is_b, is_intra}
+use Rattle.sal_macroblock.specs.Macroblocks.{is_intra}
 use Rattle.sal_intra.specs.Edges.{luma_edge_of, chroma_edge_of}
 use Rattle.sal_intra.specs.Intra.{whole_sample, luma_edge, chroma_edge}
 use Rattle.sal_inter.specs.Inter.{inter_sample}

@@ -1,10 +1,9 @@
 -- Intra macroblocks in their places.
-use Rattle.std.proofs.Common.{◌≡◌, ◌∙◌, ◌<◌, ◌≤◌, ◌+◌, ◌*◌, ℕ, ℤ, pos, List, Bool, true, false, if◌then◌else◌, length, refl, sym, ap, arith}
+use Rattle.std.proofs.Common.{◌≡◌, ◌∙◌, ◌<◌, ◌≤◌, ◌+◌, ◌*◌, ℕ, pos, List, Bool, true, false, if◌then◌else◌, refl, sym, ap, arith}
 use Rattle.std.proofs.Math.Nat.{mul-le-mul_right}
 use Rattle.sal_base.specs.declared.picture.Plane.{Plane}
 use Rattle.sal_base.specs.declared.kinds.YMode.{YMode}
 use Rattle.sal_base.specs.declared.kinds.YMode.TheVariants.{B}
-use Rattle.sal_macroblock.specs.declared.mode.MbMode.{MbMode}
 use Rattle.sal_macroblock.specs.declared.mode.RefKind.TheVariants.{Intra}
 use Rattle.sal_macroblock.specs.Macroblocks.{is_b, is_intra}
 use Rattle.sal_intra.specs.declared.edge.LumaEdge.{LumaEdge}
@@ -13,7 +12,7 @@ use Rattle.sal_intra.specs.Edges.{luma_edge_of, chroma_edge_of}
 use Rattle.sal_intra.specs.Intra.{whole_sample, luma_edge, chroma_edge}
 use Rattle.sal_inter.specs.Inter.{inter_sample}
 use Rattle.sal_transform.specs.Steps.{Steps}
-use Rattle.sal_frame.specs.Records.{Macroblock, macroblock}
+use Rattle.sal_frame.specs.Records.{Macroblock}
 use Rattle.sal_frame.specs.Residues.{luma_residues, chroma_residues, residue_at}
 use Rattle.sal_frame.specs.Built.{added, subs_built, luma_vector, chroma_vector, luma_built, chroma_built, put_square}
 use Rattle.sal_frame.specs.Intra.{intra_luma, intra_chroma}

@@ -1,5 +1,5 @@
 -- A macroblock without levels has no residues.
-use Rattle.std.proofs.Common.{◌≡◌, ◌∙◌, ◌<◌, ◌≤◌, ◌+◌, ◌*◌, ◌/◌, ◌%◌, ℕ, ℤ, pos, ◌+ℤ◌, ◌*ℤ◌, List, [], ◌∷◌, Bool, true, false, if◌then◌else◌, get_or, replicate, slice_set, refl, sym, ap, arith, length, min, lit<}
+use Rattle.std.proofs.Common.{◌≡◌, ◌∙◌, ◌<◌, ◌≤◌, ◌+◌, ◌*◌, ◌/◌, ◌%◌, ℕ, ℤ, pos, ◌+ℤ◌, ◌*ℤ◌, List, [], ◌∷◌, Bool, true, false, if◌then◌else◌, get_or, replicate, refl, sym, ap, arith, length, lit<}
 use Rattle.std.proofs.lemmas.Int.{ints}
 use Rattle.std.proofs.lemmas.List.{get_or-replicate, length-replicate}
 use Rattle.sal_base.specs.Samples.{listed}
@@ -8,7 +8,7 @@ use Rattle.sal_macroblock.specs.Macroblocks.{has_y2}
 use Rattle.sal_macroblock.specs.declared.mode.MbMode.{MbMode}
 use Rattle.sal_transform.specs.Inverse.{rounded}
 use Rattle.sal_transform.specs.Hadamard.{sum_0, sum_1, sum_2, sum_3, eighth, inverse_y2_of}
-use Rattle.sal_transform.specs.Steps.{Steps, dequantised}
+use Rattle.sal_transform.specs.Steps.{Steps}
 use Rattle.sal_transform.specs.Residue.{residue_of, firsts_of, residue_after}
 use Rattle.sal_frame.specs.Small.{HasOneLevel}
 use Rattle.sal_frame.specs.Records.{Macroblock, macroblock}

@@ -1,8 +1,8 @@
 -- Squares made of parts of 4 by 4 samples, one by one.
-use Rattle.std.proofs.Common.{◌≡◌, ◌∙◌, ◌≤◌, ◌<◌, ◌+◌, ◌*◌, ◌/◌, ◌%◌, ℕ, List, ◌⊎◌, inl, inr, length, get_or, refl, sym, ap, subst, arith}
+use Rattle.std.proofs.Common.{◌≡◌, ◌∙◌, ◌≤◌, ◌<◌, ◌+◌, ◌*◌, ◌/◌, ◌%◌, ℕ, List, ◌⊎◌, inl, inr, length, get_or, sym, ap, subst, arith}
 use Rattle.std.proofs.lemmas.Bool.{cases_lt}
 use Rattle.sal_base.specs.Samples.{square_put, IsBlockOf}
-use Rattle.sal_frame.proofs.SquarePlaces.{Lies, Apart, rows_length, in_square, out_of_square}
+use Rattle.sal_frame.proofs.SquarePlaces.{Lies, rows_length, in_square, out_of_square}
 
 -- the part that a place of a luma square is in
 abbrev pub luma_part : ℕ → ℕ

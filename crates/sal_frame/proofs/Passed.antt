@@ -1,5 +1,5 @@
 -- Steps and values as they are passed, and residues out of them.
-use Rattle.std.proofs.Common.{◌≡◌, ◌∙◌, ◌≤◌, ◌<◌, ◌+◌, ℕ, ℤ, pos, ◌*ℤ◌, List, [], Bool, true, false, if◌then◌else◌, get_or, length, replicate, slice_set, sym, ap, subst, arith, to_z, of_z, w32, inl, inr, ◌⊎◌}
+use Rattle.std.proofs.Common.{◌≡◌, ◌∙◌, ◌≤◌, ◌<◌, ◌+◌, ℕ, ℤ, pos, ◌*ℤ◌, List, [], Bool, true, false, if◌then◌else◌, get_or, length, replicate, slice_set, sym, ap, subst, arith, to_z, w32, inl, inr, ◌⊎◌}
 use Rattle.std.specs.Prelude.{All}
 use Rattle.std.proofs.lemmas.Bool.{cases_lt}
 use Rattle.std.proofs.lemmas.Int.{ints}
@@ -15,7 +15,7 @@ use Rattle.sal_transform.specs.Steps.{Steps, dequantised}
 use Rattle.sal_transform.specs.Residue.{residue_of, firsts_of, residue_after}
 use Rattle.sal_transform.proofs.Signed.{as_passed, kept_21, small_21}
 use Rattle.sal_frame.specs.Small.{HasOneLevel}
-use Rattle.sal_frame.specs.Records.{Macroblock, macroblock}
+use Rattle.sal_frame.specs.Records.{macroblock}
 use Rattle.sal_frame.specs.Residues.{firsts, luma_alone, luma_after, luma_residues, chroma_residues}
 use Rattle.sal_frame.proofs.Flats.{flat_residue, flat_after}
 

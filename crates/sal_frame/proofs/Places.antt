@@ -1,5 +1,5 @@
 -- Lists by their places.
-use Rattle.std.proofs.Common.{◌≡◌, ℕ, suc, zero, ◌+◌, ◌-◌, ◌<◌, ◌≤◌, ◌∙◌, List, [], ◌∷◌, ◌++◌, length, get_or, take, drop, refl, sym, ap, arith}
+use Rattle.std.proofs.Common.{◌≡◌, ℕ, suc, zero, ◌+◌, ◌-◌, ◌<◌, ◌≤◌, ◌∙◌, List, [], ◌∷◌, ◌++◌, length, get_or, refl, sym, ap, arith}
 use Rattle.sal_base.specs.Samples.{listed_from, listed}
 
 listed_from_is : {A : Type 0} (k n : ℕ) (xs : List A) (d : A) (f : ℕ → A) → length xs ≡ n → ((j : ℕ) → j < n → get_or xs j d ≡ f (k + j)) → xs ≡ listed_from k n f

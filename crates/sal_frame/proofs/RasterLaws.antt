@@ -1,11 +1,11 @@
 -- Macroblocks in raster order, one more.
-use Rattle.std.proofs.Common.{◌≡◌, ◌∙◌, ◌≤◌, ◌<◌, ◌+◌, ◌*◌, ◌/◌, ◌%◌, ℕ, suc, zero, ℤ, List, [], ◌∷◌, ◌++◌, Bool, true, false, if◌then◌else◌, length, replicate, refl, sym, ap, arith}
+use Rattle.std.proofs.Common.{◌≡◌, ◌∙◌, ◌≤◌, ◌<◌, ◌+◌, ◌*◌, ◌/◌, ◌%◌, ℕ, suc, zero, ℤ, List, [], ◌∷◌, ◌++◌, Bool, true, false, if◌then◌else◌, length, refl, ap, arith}
 use Rattle.std.proofs.lemmas.List.{length-replicate}
 use Rattle.std.proofs.Math.Nat.{mul-le-mul_right}
 use Rattle.sal_base.specs.declared.picture.Plane.{Plane}
 use Rattle.sal_base.specs.declared.picture.Planes.{Planes}
 use Rattle.sal_base.specs.Picture.{IsPlane}
-use Rattle.sal_base.specs.Samples.{listed_from, listed}
+use Rattle.sal_base.specs.Samples.{listed_from}
 use Rattle.sal_intra.specs.declared.edge.LumaEdge.{LumaEdge}
 use Rattle.sal_macroblock.specs.declared.mode.MbMode.{MbMode}
 use Rattle.sal_transform.specs.Steps.{Steps}

@@ -1,5 +1,5 @@
 -- The rows of a plane that is cut, one after the other.
-use Rattle.std.proofs.Common.{◌≡◌, ℕ, suc, zero, ◌+◌, ◌-◌, ◌*◌, ◌<◌, ◌≤◌, length, List, [], ◌++◌, refl, ap, sym, ◌∙◌, subst, arith, append_assoc, slice_range, take, drop, min}
+use Rattle.std.proofs.Common.{◌≡◌, ℕ, suc, ◌+◌, ◌-◌, ◌*◌, ◌<◌, ◌≤◌, length, List, [], ◌++◌, sym, ◌∙◌, subst, arith, append_assoc, slice_range, drop}
 use Rattle.std.proofs.lemmas.List.{append-nil, length-append, length-take-le, length-drop}
 use Rattle.std.proofs.lemmas.Nat.{mul-le}
 use Rattle.sal_base.specs.Samples.{rows_cut}

@@ -1,6 +1,6 @@
 -- Squares of samples with their residues, place by place.
-use Rattle.std.proofs.Common.{◌≡◌, ◌∙◌, ◌<◌, ◌≤◌, ◌+◌, ◌*◌, ◌/◌, ◌%◌, ℕ, ℤ, pos, List, [], ◌∷◌, length, get_or, replicate, refl, sym, ap, arith}
-use Rattle.sal_base.specs.Samples.{listed, IsBlockOf}
+use Rattle.std.proofs.Common.{◌≡◌, ◌∙◌, ◌<◌, ◌≤◌, ◌+◌, ◌*◌, ◌/◌, ◌%◌, ℕ, ℤ, pos, List, [], ◌∷◌, length, get_or, replicate, sym, ap, arith}
+use Rattle.sal_base.specs.Samples.{IsBlockOf}
 use Rattle.sal_base.specs.declared.kinds.SubMode.{SubMode}
 use Rattle.sal_intra.specs.declared.edge.SubEdge.{SubEdge}
 use Rattle.sal_intra.specs.Sub.{sub_sample}

@@ -1,8 +1,8 @@
 -- Squares of samples in flat planes.
-use Rattle.std.proofs.Common.{◌≡◌, ℕ, suc, zero, ◌+◌, ◌*◌, ◌-◌, ◌≤◌, ◌<◌, ◌∙◌, List, [], ◌∷◌, ◌++◌, refl, sym, ap, arith, add-one, length, get_or, slice_range}
+use Rattle.std.proofs.Common.{◌≡◌, ℕ, ◌+◌, ◌*◌, ◌-◌, ◌≤◌, ◌<◌, ◌∙◌, List, [], ◌∷◌, ◌++◌, refl, arith, add-one, slice_range}
 use Rattle.std.proofs.Math.Nat.{mul-le-mul_right}
 use borrow.Rule.Slice.PartMut.{put_mid}
-use Rattle.sal_base.specs.Samples.{rows_put, pasted}
+use Rattle.sal_base.specs.Samples.{rows_put}
 
 -- one row more
 pub rows_more : (width x y side : ℕ) (block samples now ys : List ℕ) (row k : ℕ) → now ≡ rows_put width x y side block row samples → k ≡ side

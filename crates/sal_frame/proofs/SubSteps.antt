@@ -1,5 +1,5 @@
 -- The subblocks of a macroblock in mode B, one by one.
-use Rattle.std.proofs.Common.{◌≡◌, ◌∙◌, ℕ, ℤ, suc, ◌+◌, ◌*◌, ◌/◌, ◌%◌, List, [], ◌∷◌, get_or, ap, sym, add-one}
+use Rattle.std.proofs.Common.{◌≡◌, ◌∙◌, ℕ, ℤ, ◌+◌, ◌*◌, ◌/◌, ◌%◌, List, [], ◌∷◌, ap, add-one}
 use Rattle.sal_base.specs.Samples.{square_put}
 use Rattle.sal_intra.specs.declared.edge.LumaEdge.{LumaEdge}
 use Rattle.sal_macroblock.specs.declared.mode.MbMode.{MbMode}

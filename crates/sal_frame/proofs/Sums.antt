@@ -1,5 +1,5 @@
 -- Residues added to squares of samples, row by row.
-use Rattle.std.proofs.Common.{◌≡◌, ℤ, subst, slice_range, ℕ, suc, zero, ◌+◌, ◌*◌, ◌-◌, ◌/◌, ◌%◌, ◌≤◌, ◌<◌, ◌∙◌, List, ◌++◌, refl, sym, ap, arith, length, length-append, get_or, take, drop, min}
+use Rattle.std.proofs.Common.{◌≡◌, ℤ, subst, slice_range, ℕ, ◌+◌, ◌*◌, ◌-◌, ◌/◌, ◌%◌, ◌≤◌, ◌<◌, ◌∙◌, List, ◌++◌, sym, ap, arith, length, length-append, get_or, take, drop}
 use Rattle.std.proofs.Common.{◌⊎◌, inl, inr}
 use Rattle.std.proofs.lemmas.Bool.{cases_lt}
 use Rattle.std.proofs.lemmas.List.{get_or_append_left, get_or-append_right, get_or-take, get_or-drop, length-take, length-drop}

@@ -1,5 +1,6 @@
 -- Intra macroblocks by the samples around them (RFC 6386, 12 and 14.5).
 use Rattle.std.specs.Prelude.{◌≡◌, ◌<◌, ◌⊎◌, IsTrue, ℕ, List, if◌then◌else◌}
+use Rattle.sal_base.specs.Kinds.{is_whole}
 use Rattle.sal_base.specs.declared.picture.Planes.{Planes}
 use Rattle.sal_macroblock.specs.declared.mode.MbMode.{MbMode}
 use Rattle.sal_macroblock.specs.declared.mode.RefKind.TheVariants.{Intra}
@@ -7,7 +8,7 @@ use Rattle.sal_state.specs.States.{HasBlocks}
 use Rattle.sal_macroblock.specs.Macroblocks.{is_b}
 use Rattle.sal_intra.specs.declared.edge.LumaEdge.{LumaEdge}
 use Rattle.sal_intra.specs.declared.edge.ChromaEdge.{ChromaEdge}
-use Rattle.sal_intra.specs.Intra.{is_whole, whole_sample, luma_edge, chroma_edge}
+use Rattle.sal_intra.specs.Intra.{whole_sample, luma_edge, chroma_edge}
 use Rattle.sal_transform.specs.Steps.{Steps}
 use Rattle.sal_frame.specs.Records.{Macroblock}
 use Rattle.sal_frame.specs.Residues.{luma_residues, chroma_residues, residue_at}

@@ -3,7 +3,8 @@
 ghost use Rattle.std.specs.Prelude.{◌≡◌, ◌≤◌, ◌⊎◌, false, IsTrue};
 ghost use Rattle.sal_macroblock.specs.Blocks.{no_levels};
 ghost use Rattle.sal_macroblock.specs.Macroblocks.{is_b};
-ghost use Rattle.sal_intra.specs.Intra.{is_whole, whole_sample, luma_edge};
+ghost use Rattle.sal_base.specs.Kinds.{is_whole};
+ghost use Rattle.sal_intra.specs.Intra.{whole_sample, luma_edge};
 ghost use Rattle.sal_frame.specs.Built.{added};
 ghost use Rattle.sal_frame.specs.Intra.{intra_luma, intra_chroma};
 ghost use Rattle.sal_frame.specs.Records.{macroblock};

@@ -1,17 +1,9 @@
 -- The predicted sample of a whole block at one place (RFC 6386, 12.2 and 12.3).
-use Rattle.std.specs.Prelude.{ℕ, ◌+◌, ◌-◌, ◌*◌, ◌/◌, min, List, Bool, true, false, if◌then◌else◌, sum, take, slice_index}
+use Rattle.std.specs.Prelude.{ℕ, ◌+◌, ◌-◌, ◌*◌, ◌/◌, min, List, Bool, if◌then◌else◌, sum, take, slice_index}
 use Rattle.sal_base.specs.declared.kinds.YMode.{YMode}
 use Rattle.sal_base.specs.declared.kinds.YMode.TheVariants.{DC, V, H, TM}
 use Rattle.sal_intra.specs.declared.edge.LumaEdge.{LumaEdge}
 use Rattle.sal_intra.specs.declared.edge.ChromaEdge.{ChromaEdge}
-
--- one of the four modes that predict a block as a whole
-abbrev pub is_whole : YMode → Bool
-is_whole DC = true
-is_whole V = true
-is_whole H = true
-is_whole TM = true
-is_whole _ = false
 
 -- left + above - corner, cut off at 0 and at 255
 abbrev pub true_motion : ℕ → ℕ → ℕ → ℕ

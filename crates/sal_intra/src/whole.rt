@@ -2,7 +2,8 @@
 
 ghost use Rattle.std.specs.Prelude.{◌≡◌, ◌+◌, ◌*◌, ◌≤◌, IsTrue, length, sum, take, slice_index};
 ghost use Rattle.sal_base.specs.Samples.{IsBlockOf};
-ghost use Rattle.sal_intra.specs.Intra.{is_whole, true_motion, average, edge_average, by_mode, mean_of, whole_sample, luma_edge, chroma_edge};
+ghost use Rattle.sal_base.specs.Kinds.{is_whole};
+ghost use Rattle.sal_intra.specs.Intra.{true_motion, average, edge_average, by_mode, mean_of, whole_sample, luma_edge, chroma_edge};
 
 use crate::edge::{ChromaEdge, LumaEdge};
 use sal_base::YMode;

@@ -1,6 +1,7 @@
 -- The modes of an intra macroblock, step by step, by a decoder's numbers.
 use Rattle.std.proofs.Common.{◌≡◌, ℕ, suc, ◌+◌, ◌-◌, ◌≤◌, ◌<◌, ◌∙◌, List, [], ◌∷◌, ◌++◌, Bool, false, if◌then◌else◌, length, replicate, set, take, refl, sym, ap, arith, zero, true}
 use Rattle.std.proofs.lemmas.List.{take_more_set, take_all}
+use Rattle.sal_base.specs.Kinds.{is_whole}
 use Rattle.sal_base.specs.declared.kinds.YMode.{YMode}
 use Rattle.sal_base.specs.declared.kinds.YMode.TheVariants.{DC, V, H, TM, B, NEAREST, NEAR, ZERO, NEW, SPLIT}
 use Rattle.sal_base.specs.declared.kinds.SubMode.{SubMode}
@@ -14,7 +15,7 @@ use Rattle.sal_macroblock.specs.declared.mode.RefKind.TheVariants.{Intra}
 use Rattle.sal_macroblock.specs.declared.mode.MbMode.{MbMode}
 use Rattle.sal_macroblock.specs.Macroblocks.{is_b, implied, zero_vector}
 use Rattle.sal_modes.specs.Around.{Around}
-use Rattle.sal_modes.specs.Modes.{is_intra_mode, is_whole_mode, HasFittingModes}
+use Rattle.sal_modes.specs.Modes.{is_intra_mode, HasFittingModes}
 use Rattle.sal_modes.specs.IntraModes.{whole_mode, sub_mode, sub_modes, sub_probabilities, y_mode, chroma_mode, intra_mode}
 
 -- what is read of one leaf, as the definition names the tree and the probabilities
@@ -85,7 +86,7 @@ leaf_intra (suc (suc (suc zero))) = refl
 leaf_intra (suc (suc (suc (suc zero)))) = refl
 leaf_intra (suc (suc (suc (suc (suc l))))) = refl
 
-pub leaf_whole : (l : ℕ) → l < 4 → is_whole_mode (whole_mode l) ≡ true
+pub leaf_whole : (l : ℕ) → l < 4 → is_whole (whole_mode l) ≡ true
 leaf_whole zero lt = refl
 leaf_whole (suc zero) lt = refl
 leaf_whole (suc (suc zero)) lt = refl
@@ -95,7 +96,7 @@ leaf_whole (suc (suc (suc (suc l)))) lt = absurd (omega arith)
 -- the modes of an intra macroblock fit
 pub intra_fits : (l m : ℕ) (y chroma : YMode) (subs : List SubMode) → y ≡ whole_mode l → chroma ≡ whole_mode m → m < 4 → (is_b y ≡ false → subs ≡ replicate 16 (implied y)) → HasFittingModes (intra_of y subs chroma)
 intra_fits l m y chroma subs ey ec lt whole =
-    record { segment = omega arith; luma = ap is_intra_mode ey ∙ leaf_intra l; chroma = ap is_whole_mode ec ∙ leaf_whole m lt; inter_chroma = λ e. absurd (never e); sub = whole; vectors = λ e. refl; still = λ e. refl }
+    record { segment = omega arith; luma = ap is_intra_mode ey ∙ leaf_intra l; chroma = ap is_whole ec ∙ leaf_whole m lt; inter_chroma = λ e. absurd (never e); sub = whole; vectors = λ e. refl; still = λ e. refl }
   where
     never : true ≡ false → ⊥
     never e = cc

@@ -1,9 +1,10 @@
 -- The modes and vectors of a macroblock, in the order of their bits (RFC 6386, 10, 11, 16 and 19.3).
 use Rattle.std.specs.Prelude.{◌≡◌, ℕ, ◌≤◌, List, [], ◌∷◌, Bool, true, false, not, ◌||◌, if◌then◌else◌, replicate, slice_index, slice_index_or}
+use Rattle.sal_base.specs.Kinds.{is_whole}
 use Rattle.sal_base.specs.Samples.{listed}
 use Rattle.sal_base.specs.declared.kinds.Vector.{Vector}
 use Rattle.sal_base.specs.declared.kinds.YMode.{YMode}
-use Rattle.sal_base.specs.declared.kinds.YMode.TheVariants.{DC, V, H, TM, NEAREST, NEAR, ZERO, NEW, SPLIT}
+use Rattle.sal_base.specs.declared.kinds.YMode.TheVariants.{DC, NEAREST, NEAR, ZERO, NEW, SPLIT}
 use Rattle.sal_base.specs.declared.kinds.SubMode.TheVariants.{BDC}
 use Rattle.sal_bool.specs.Syntax.{Syntax, Done, ◌>>=◌, one, when, leaf}
 use Rattle.sal_tables.specs.Tables.{vector_mode_probabilities_of}
@@ -70,17 +71,9 @@ mb_mode h probs a = do
   m ← (if inter then inter_mode h probs a else intra_mode h.key probs a)
   Done (record m { segment = segment; skip = skip })
 
--- the modes that predict whole blocks of an intra macroblock (8)
-abbrev pub is_whole_mode : YMode → Bool
-is_whole_mode DC = true
-is_whole_mode V = true
-is_whole_mode H = true
-is_whole_mode TM = true
-is_whole_mode _ = false
-
 -- the Y modes of an intra macroblock; the others are those of an inter one (8 and 16.3)
 abbrev pub is_intra_mode : YMode → Bool
-is_intra_mode y = is_b y || is_whole_mode y
+is_intra_mode y = is_b y || is_whole y
 
 -- what is true of each macroblock that is read: one of four segments; a Y mode that fits its reference; a whole chroma mode, DC in
 -- an inter one; for each subblock the mode that its Y mode counts as, unless that is B; one vector for all blocks, unless it is in
@@ -88,7 +81,7 @@ is_intra_mode y = is_b y || is_whole_mode y
 pub record HasFittingModes (m : MbMode) : Type 0 where
   pub segment : m.segment ≤ 3
   pub luma : is_intra_mode m.y ≡ is_intra m.reference
-  pub chroma : is_whole_mode m.chroma ≡ true
+  pub chroma : is_whole m.chroma ≡ true
   pub inter_chroma : is_intra m.reference ≡ false → m.chroma ≡ DC
   pub sub : is_b m.y ≡ false → m.sub ≡ replicate 16 (implied m.y)
   pub vectors : is_split m.y ≡ false → m.vectors ≡ replicate 16 (own_vector m)

@@ -14,7 +14,7 @@ use Rattle.sal_receiver.specs.declared.answers.Misfit.{Misfit}
 use Rattle.sal_receiver.specs.declared.line.Line.{Line}
 use Rattle.sal_receiver.specs.declared.pending.Stage.TheVariants.{Waits}
 use Rattle.sal_receiver.specs.declared.pending.Pending.{Pending}
-use Rattle.sal_receiver.specs.Past.{Call, Decoding, Outcome, Sound, Faulty, NoMemory, taken, floor, head, shown}
+use Rattle.sal_receiver.specs.Past.{Call, Decoding, Outcome, Sound, Faulty, NoMemory, taken, shown}
 use Rattle.sal_receiver.specs.Held.{held}
 use Rattle.sal_receiver.specs.Ready.{ready, frame, source_name, target_name, is_out, is_decided, decoding_of}
 use Rattle.sal_receiver.specs.Answers.{last_shown, decoded_answer, outcome_answer}

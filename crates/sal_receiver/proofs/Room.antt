@@ -1,5 +1,5 @@
 -- A frame that is out finds room in the window, and there are shares enough.
-use Rattle.std.proofs.Common.{◌≡◌, ℕ, suc, ◌+◌, ◌-◌, ◌<◌, ◌≤◌, max, Bool, true, false, cond, ◌&&◌, not, List, [], ◌∷◌, Option, Some, None, is_some, refl, ap, sym, ◌∙◌, subst, arith, ltb, leb, eqb, ◌⊎◌, inl, inr}
+use Rattle.std.proofs.Common.{◌≡◌, ℕ, suc, ◌+◌, ◌-◌, ◌<◌, ◌≤◌, max, Bool, true, false, cond, ◌&&◌, List, [], ◌∷◌, Option, Some, None, refl, ap, sym, ◌∙◌, arith, ltb, leb, eqb, ◌⊎◌, inl, inr}
 use Rattle.std.proofs.lemmas.Bool.{eqb-false, ne_eqb, eq-eqb, leb-true, le-leb, lt-leb, and_parts, cases_lt}
 use Rattle.std.specs.Option.{option_map}
 use Rattle.sal_base.specs.Names.{same}

@@ -16,7 +16,7 @@ use sal_base::{Bytes, Memory, Name};
 use sal_chain::Store;
 use sal_codec::Codec;
 use sal_reasm::Offered;
-use sal_wire::{Fragment, Held};
+use sal_wire::Fragment;
 use std::sync::Arc;
 
 /// The first number from the floor on that has this name.
@@ -56,18 +56,6 @@ pub(crate) fn share_of<C: Codec>(
         Some(number) => share_at(store, number),
         None => Ok(None),
     }
-}
-
-/// The numbers with their names, for an acknowledgement.
-pub(crate) fn held_of(labels: &[(u32, Name)]) -> Held
-    requires { length labels.now ≤ 16 }
-    ensures { result ≡ labels.now }
-{
-    let mut held = Held::new();
-    for label in labels {
-        held.push(label.0, label.1);
-    }
-    held
 }
 
 /// A frame that is complete now, with its source where that is held.

@@ -20,7 +20,7 @@ ghost use Rattle.sal_receiver.specs.Pending.{without, restaged, wanting};
 
 use crate::answers::{Delivered, Done, Misfit, Refuse};
 use crate::line::Line;
-use crate::parts::{add, held_of, share_of};
+use crate::parts::{add, share_of};
 use crate::pending::{Pending, Stage};
 use crate::rows::{feed, is_out, keep_from, remove, restage, take_first};
 use crate::shares::Shares;
@@ -157,12 +157,11 @@ impl<C: Codec> Receiver<C> {
     fn ack(&self, session: u32) -> Ack
         ensures { result ≡ ack_of session self.now.line.gap self.now.shelf.kept }
     {
-        let labels = self.store.held();
         Ack {
             session,
             serial: self.line.gap.greatest,
             gap: self.line.gap.average,
-            held: held_of(labels.as_slice()),
+            held: self.store.held(),
         }
     }
 

@@ -6,7 +6,6 @@ use Rattle.sal_script.specs.declared.line.ScriptLine.{ScriptLine}
 use Rattle.sal_script.specs.declared.line.ScriptLine.TheVariants.{Next, NextLate, Down, Up, DownAll, UpAll, Wait, Rest}
 use Rattle.sal_script.specs.Numbered.{Numbered}
 use Rattle.sal_sender.specs.OneThread.{Session}
-use Rattle.sal_world.specs.World.{after}
 use Rattle.sal_world.specs.Promises.{Names}
 use Rattle.sal_world.specs.Script.{Run, line}
 use Rattle.sal_world.proofs.Emptied.{IsEmpty, IsEmptyIn, line_empty, begun_empty, served_so}

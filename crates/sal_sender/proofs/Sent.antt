@@ -1,8 +1,8 @@
 -- What is taken of a report, and what is kept of it.
 use Rattle.std.proofs.Common.{◌≡◌, ◌≢◌, ℕ, ◌+◌, ◌-◌, ◌<◌, ◌≤◌, max, min, Bool, true, false, cond, List, [], ◌∷◌, ◌++◌, length, map, take, replicate, Option, Some, None, refl, ap, sym, ◌∙◌, subst, arith, eqb, leb, length-append, ◌⊎◌, inl, inr}
-use Rattle.std.proofs.lemmas.Bool.{eqb-true, eqb-false, leb-true}
+use Rattle.std.proofs.lemmas.Bool.{eqb-false, leb-true}
 use Rattle.std.specs.Arc.{arc_value}
-use Rattle.std.specs.List.{find, filter}
+use Rattle.std.specs.List.{filter}
 use Rattle.std.specs.declared.sync.Arc.{Arc}
 use Rattle.sal_base.specs.Lists.{Each}
 use Rattle.sal_base.specs.declared.name.Name.{Name}

@@ -23,7 +23,7 @@ use Rattle.sal_sender.specs.Choosing.{reported, first_of}
 use Rattle.sal_sender.specs.Answers.{jobs_after, starts, next_answer, is_taken, is_out, waiting_jobs}
 use Rattle.sal_sender.specs.Promises.{IsLegal}
 use Rattle.sal_sender.specs.Links.{links_of, choices_from}
-use Rattle.sal_sender.specs.Planned.{safe_of, base_of, plan_of, fine_id, coarse_q, seats_of, kind_from, state_from, work_from, queue_of, after_start}
+use Rattle.sal_sender.specs.Planned.{safe_of, base_of, plan_of, seats_of, kind_from, state_from, work_from, queue_of, after_start}
 use Rattle.sal_sender.specs.Seats.{listed}
 use Rattle.sal_sender.specs.Sound.{IsFrom, AreChained}
 use Rattle.sal_sender.proofs.ReportedBack.{open_parts}

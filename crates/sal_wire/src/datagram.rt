@@ -1,7 +1,7 @@
 //! One datagram.
 
 use crate::fragment::Fragment;
-use crate::held::Held;
+use sal_base::Labels;
 
 /// What a receiver holds, and the gap that it measured.
 #[derive(Drop)]
@@ -13,7 +13,7 @@ pub struct Ack {
     /// The mean gap between fragments, in microseconds.
     pub gap: u32,
     /// The states held, with rising numbers from 1 to 1,048,575.
-    pub held: Held,
+    pub held: Labels,
 }
 
 /// The end of a session.

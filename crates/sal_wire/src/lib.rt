@@ -4,14 +4,12 @@
 mod datagram;
 mod fault;
 mod fragment;
-mod held;
 mod reading;
 mod writing;
 
 pub use datagram::{Ack, Bye, Datagram};
 pub use fault::{Wire, WireFault};
 pub use fragment::Fragment;
-pub use held::Held;
 pub use reading::read;
 pub use writing::write;
 

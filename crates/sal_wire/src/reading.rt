@@ -9,9 +9,8 @@ ghost use Rattle.sal_wire.specs.Rules.{first_fault, front_tests, fragment_tests,
 use crate::datagram::{Ack, Bye, Datagram};
 use crate::fault::{Wire, WireFault};
 use crate::fragment::Fragment;
-use crate::held::Held;
 use byteorder::{BigEndian, ByteOrder};
-use sal_base::Name;
+use sal_base::{Labels, Name};
 
 // The first byte of each kind, and the second of all.
 const FRAGMENT: u8 = 0x46;
@@ -143,12 +142,12 @@ fn fragment(bytes: &[u8]) -> Result<Datagram<'_>, WireFault>
 }
 
 // The states of an acknowledgement, which end with the bytes.
-fn held(bytes: &[u8], count: usize) -> Result<Held, WireFault>
+fn held(bytes: &[u8], count: usize) -> Result<Labels, WireFault>
     requires few { count ≤ 16 }
     requires long { length bytes.now ≡ 15 + 12 * count }
     ensures { result ≡ unless (first_fault (held_tests 0 15 (held_at count 15 bytes.now))) (held_at count 15 bytes.now) }
 {
-    let mut held = Held::new();
+    let mut held = Labels::new();
     let mut before = 0;
     for i in 0..count {
         let place = ACK_HEAD + 12 * i;

@@ -1,5 +1,5 @@
 -- What a choice makes of the world.
-use Rattle.std.proofs.Common.{◌≡◌, ℕ, ◌≤◌, ◌*◌, Bool, true, false, not, List, [], ◌∷◌, ◌++◌, length, map, Result, Ok, Err, is_err, refl, ap, sym, ◌∙◌, subst, arith, ◌⊎◌, inl, inr}
+use Rattle.std.proofs.Common.{◌≡◌, ℕ, ◌≤◌, ◌*◌, Bool, true, false, not, List, [], ◌∷◌, ◌++◌, length, map, Result, Ok, Err, is_err, refl, ap, ◌∙◌, subst, arith, ◌⊎◌, inl, inr}
 use Rattle.std.proofs.lemmas.List.{append-nil, length-map}
 use Rattle.std.specs.Prelude.{OnOk}
 use Rattle.sal_codec.specs.Coding.{Coding, Made, made_of}
@@ -7,9 +7,9 @@ use Rattle.sal_wire.specs.Pieces.{below, count_of}
 use Rattle.sal_wire.specs.Spelling.{text}
 use Rattle.sal_sender.specs.declared.choice.Choice.{Choice}
 use Rattle.sal_sender.specs.declared.answers.Chosen.{Chosen}
-use Rattle.sal_sender.specs.declared.answers.Chosen.TheVariants.{NoPicture, Waiting, Sent, Nothing, Memory as ChosenMemory}
+use Rattle.sal_sender.specs.declared.answers.Chosen.TheVariants.{Sent, Memory as ChosenMemory}
 use Rattle.sal_sender.specs.Machine.{Machine}
-use Rattle.sal_sender.specs.Past.{Past, Choose, choices, pictures, datagrams, burst_in}
+use Rattle.sal_sender.specs.Past.{Past, Choose, choices, pictures, burst_in}
 use Rattle.sal_sender.specs.Past.{sent as sent_by}
 use Rattle.sal_sender.specs.Chain.{state, made, picture_at}
 use Rattle.sal_sender.specs.OneThread.{Session, burst_after}
@@ -19,7 +19,6 @@ use Rattle.sal_sender.specs.Promises.{Answers, Answered, IsLegal}
 use Rattle.sal_sender.specs.Stands.{Stands as SenderStands}
 use Rattle.sal_sender.proofs.Thread.{chosen_is}
 use Rattle.sal_world.specs.declared.event.Answer.{Answer}
-use Rattle.sal_world.specs.declared.event.Answer.TheVariants.{Choose as ChooseSaid, Sent as SentSaid}
 use Rattle.sal_world.specs.World.{Event, Chooses, World, sent}
 use Rattle.sal_world.specs.Both.{Both}
 use Rattle.sal_world.specs.Answers.{chosen_said}

@@ -1,6 +1,6 @@
 -- A datagram that comes is taken, and keeps the invariant.
 use Rattle.std.proofs.Common.{◌≡◌, ℕ, zero, suc, ◌+◌, ◌-◌, ◌^◌, ◌≤◌, ◌<◌, max, Bool, true, false, cond, List, [], ◌∷◌, length, map, Option, Some, None, Ok, refl, ap, sym, ◌∙◌, subst, arith, ltb, inl, inr, ◌⊎◌}
-use Rattle.std.proofs.lemmas.Bool.{eq-eqb, and_from}
+use Rattle.std.proofs.lemmas.Bool.{eq-eqb}
 use Rattle.std.proofs.lemmas.List.{length-map}
 use Rattle.sal_base.specs.Lists.{Has, Each}
 use Rattle.sal_base.specs.declared.name.Name.{Name}

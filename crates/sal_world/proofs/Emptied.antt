@@ -29,7 +29,7 @@ use Rattle.sal_receiver.proofs.Lasting.{ready_same}
 use Rattle.sal_receiver.proofs.Was.{take_waits, waits_parts, ready_taken}
 use Rattle.sal_script.specs.declared.line.ScriptLine.{ScriptLine}
 use Rattle.sal_script.specs.declared.line.ScriptLine.TheVariants.{Next as NextLine, NextLate, Down as DownLine, Up as UpLine, DownAll, UpAll, Wait, Rest}
-use Rattle.sal_world.specs.World.{World, Event, Next, Take, Reports, Chooses, Down, Up, Ready, Decodes, Moment, sent, acks, acks_of, ack_in, member, delivers, hears}
+use Rattle.sal_world.specs.World.{World, Next, Take, Reports, Chooses, Down, Ready, Decodes, sent, acks, acks_of, ack_in, member, delivers, hears}
 use Rattle.sal_receiver.specs.Promises.{ReadyIsServed, IsServed, WasShown, WasOlder}
 use Rattle.sal_world.specs.Promises.{IsSession, HasSize, Names, NothingIsLeft, AllIsServed}
 use Rattle.sal_world.proofs.Played.{run_holds}

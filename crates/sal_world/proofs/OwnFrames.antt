@@ -1,9 +1,9 @@
 -- A frame that was handed out stays the frame of its number.
-use Rattle.std.proofs.Common.{◌≡◌, ℕ, ◌+◌, ◌<◌, ◌≤◌, Bool, true, false, cond, ◌&&◌, ◌||◌, List, [], ◌∷◌, ◌++◌, length, filter, Option, Some, None, is_some, Result, Ok, Err, refl, ap, sym, ◌∙◌, subst, arith, eqb, ltb, ◌⊎◌, inl, inr}
+use Rattle.std.proofs.Common.{◌≡◌, ℕ, ◌+◌, ◌<◌, ◌≤◌, Bool, true, false, cond, ◌&&◌, ◌||◌, List, [], ◌∷◌, ◌++◌, length, Option, Some, None, is_some, Result, Ok, Err, refl, ap, ◌∙◌, subst, eqb, ltb, ◌⊎◌}
 use Rattle.std.proofs.lemmas.Bool.{eqb-true, and_parts, ltb-true}
 use Rattle.std.specs.Prelude.{slice_index, if◌then◌else◌, option_and_then}
 use Rattle.std.specs.Option.{option_map}
-use Rattle.sal_base.specs.Lists.{Has, Each}
+use Rattle.sal_base.specs.Lists.{Each}
 use Rattle.sal_codec.specs.Coding.{Coding}
 use Rattle.sal_wire.specs.declared.fault.WireFault.{WireFault}
 use Rattle.sal_wire.specs.declared.datagram.Ack.{Ack}
@@ -13,13 +13,13 @@ use Rattle.sal_wire.specs.Rules.{first_fault, front_tests, fragment_tests}
 use Rattle.sal_wire.specs.Reading.{unless, number_at, entry_of, fragment_came, ack_came, bye_came, came_as, came}
 use Rattle.sal_wire.specs.Reading.{after as after_tests}
 use Rattle.sal_wire.proofs.HeldLemmas.{all_passed}
-use Rattle.sal_reasm.specs.Complete.{floor_of, with_part, parts_of, are_all}
-use Rattle.sal_reasm.specs.Offer.{or_else, clash, clash_of}
+use Rattle.sal_reasm.specs.Complete.{floor_of, parts_of, are_all}
+use Rattle.sal_reasm.specs.Offer.{or_else, clash_of}
 use Rattle.sal_reasm.specs.Keeps.{AreNamed}
 use Rattle.sal_receiver.specs.declared.answers.Delivered.{Delivered}
 use Rattle.sal_receiver.specs.declared.answers.Delivered.TheVariants.{Taken, Ended, Refused, Memory}
 use Rattle.sal_receiver.specs.Past.{Call, Deliver, TakeReady, Decoding, taken}
-use Rattle.sal_receiver.specs.Ready.{source_now, source_name, target_name, ready, frame, take_answer}
+use Rattle.sal_receiver.specs.Ready.{source_now, ready, take_answer}
 use Rattle.sal_receiver.specs.Promises.{IsLegal}
 use Rattle.sal_receiver.specs.Work.{Handed, IsFrameOf}
 use Rattle.sal_receiver.proofs.PartsLemmas.{IsSame, index_there, same_again}
@@ -28,7 +28,7 @@ use Rattle.sal_sender.specs.OneThread.{Session}
 use Rattle.sal_world.specs.World.{Event, Next, Take, Reports, Chooses, Down, Up, Ready, Decodes, Moment, World, sent, acks, member, delivers, hears, happens, after}
 use Rattle.sal_world.specs.Handed.{frame_from, frame_at, next_frame}
 use Rattle.sal_world.proofs.ListLemmas.{some_same}
-use Rattle.sal_world.proofs.Legal.{IsLegalWorld, legal}
+use Rattle.sal_world.proofs.Legal.{legal}
 
 -- ---- fragments that were read
 

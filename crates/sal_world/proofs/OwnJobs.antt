@@ -1,5 +1,5 @@
 -- A job that was handed out stays own work.
-use Rattle.std.proofs.Common.{◌≡◌, ℕ, suc, ◌+◌, ◌<◌, ◌≤◌, Bool, List, [], ◌∷◌, ◌++◌, length, map, Option, Some, None, refl, ap, sym, ◌∙◌, subst, arith, ◌⊎◌, inl, inr}
+use Rattle.std.proofs.Common.{◌≡◌, ℕ, suc, ◌+◌, ◌<◌, ◌≤◌, List, [], ◌∷◌, ◌++◌, length, Option, Some, None, refl, ap, sym, ◌∙◌, subst, arith, ◌⊎◌, inl, inr}
 use Rattle.std.proofs.lemmas.List.{append-nil, length-append}
 use Rattle.std.specs.Option.{option_map}
 use Rattle.sal_base.specs.Lists.{Has, Each}
@@ -13,7 +13,7 @@ use Rattle.sal_sender.specs.Past.{Call, Past, NextPicture, TakeJob, Report, Choo
 use Rattle.sal_sender.specs.OneThread.{Session}
 use Rattle.sal_sender.specs.Jobs.{Job, jobs}
 use Rattle.sal_sender.specs.Choosing.{first_of}
-use Rattle.sal_sender.specs.Answers.{jobs_after, is_taken, waiting_jobs, take_answer}
+use Rattle.sal_sender.specs.Answers.{jobs_after, waiting_jobs}
 use Rattle.sal_sender.specs.Promises.{IsLegal}
 use Rattle.sal_sender.specs.Work.{Work}
 use Rattle.sal_sender.specs.Stands.{work_in, work_of, IsOwnWork}

@@ -1,19 +1,16 @@
 -- What a call of the receiver makes of the world.
-use Rattle.std.proofs.Common.{◌≡◌, ℕ, Bool, true, false, cond, not, List, [], ◌∷◌, ◌++◌, length, map, Option, Some, None, is_some, is_none, Result, Ok, Err, IsTrue, refl, ap, sym, ◌∙◌, subst, ◌⊎◌, inl, inr}
+use Rattle.std.proofs.Common.{◌≡◌, ℕ, Bool, true, false, cond, not, List, [], ◌∷◌, ◌++◌, length, Option, Some, None, is_some, is_none, Result, Ok, Err, IsTrue, refl, ap, sym, ◌∙◌, subst, ◌⊎◌, inl, inr}
 use Rattle.std.specs.Prelude.{option_and_then, IfSome}
 use Rattle.std.specs.Option.{option_map}
 use Rattle.sal_base.specs.declared.coding.Fault.{Fault}
 use Rattle.sal_base.specs.declared.coding.Decoded.{Decoded}
 use Rattle.sal_codec.specs.Coding.{Coding}
-use Rattle.sal_wire.specs.declared.fault.WireFault.{WireFault}
 use Rattle.sal_wire.specs.declared.datagram.Ack.{Ack}
-use Rattle.sal_wire.specs.Came.{Came}
 use Rattle.sal_wire.specs.Reading.{came}
 use Rattle.sal_wire.specs.Spelling.{ack_text}
 use Rattle.sal_sender.specs.OneThread.{Session}
 use Rattle.sal_receiver.specs.declared.answers.Delivered.{Delivered}
-use Rattle.sal_receiver.specs.declared.answers.Delivered.TheVariants.{Taken, Ended, Refused, Memory as DeliveredMemory}
-use Rattle.sal_receiver.specs.declared.answers.Refuse.{Refuse}
+use Rattle.sal_receiver.specs.declared.answers.Delivered.TheVariants.{Taken, Memory as DeliveredMemory}
 use Rattle.sal_receiver.specs.declared.answers.Done.{Done}
 use Rattle.sal_receiver.specs.declared.answers.Done.TheVariants.{Stranger, Returned, Unfit, Misnamed, Older, Show}
 use Rattle.sal_reasm.specs.Complete.{floor_of}
@@ -22,15 +19,15 @@ use Rattle.sal_budget.specs.Gap.{gap_after}
 use Rattle.sal_receiver.specs.Past.{Call, Deliver, TakeReady, Decoding, Outcome, Sound, Faulty, NoMemory, head, now, arrivals, taken, shown}
 use Rattle.sal_receiver.specs.Past.{session as session_of}
 use Rattle.sal_receiver.specs.Held.{held}
-use Rattle.sal_receiver.specs.Ready.{ready, frame, target_name, is_out, take_answer, outcome_of, decoding_of}
+use Rattle.sal_receiver.specs.Ready.{ready, frame, is_out, take_answer, outcome_of, decoding_of}
 use Rattle.sal_receiver.specs.Answers.{deliver_answer, decoded_answer, outcome_answer, last_shown}
 use Rattle.sal_receiver.specs.Promises.{Answers, Answered, IsLeftAlone, IsOwnWork, IsLegal}
 use Rattle.sal_receiver.specs.Work.{Handed, IsOwn, IsFrameOf, number_of}
 use Rattle.sal_receiver.specs.Machine.{Book, pending}
 use Rattle.sal_receiver.specs.Machine.{Stands as ReceiverStands}
 use Rattle.sal_world.specs.declared.event.Answer.{Answer}
-use Rattle.sal_world.specs.declared.event.Answer.TheVariants.{Down as DownSaid, Ready as ReadySaid, Decoded as DecodedSaid, Unsent, Memory}
-use Rattle.sal_world.specs.World.{Event, Down, Ready, Decodes, World, sent, acks, ack_in, member, delivers, delivered, happens}
+use Rattle.sal_world.specs.declared.event.Answer.TheVariants.{Down as DownSaid, Ready as ReadySaid, Decoded as DecodedSaid, Unsent}
+use Rattle.sal_world.specs.World.{Event, Down, Ready, Decodes, World, sent, acks, ack_in, member, delivers}
 use Rattle.sal_world.specs.Both.{Both}
 use Rattle.sal_world.specs.Handed.{frame_from, frame_at, next_frame}
 use Rattle.sal_world.specs.Answers.{is_unknown, did_decode, down_answer}

@@ -16,19 +16,18 @@ use Rattle.sal_sender.specs.declared.answers.HeardAck.TheVariants.{Heard, Ignore
 use Rattle.sal_sender.specs.declared.answers.Ignore.{Ignore}
 use Rattle.sal_sender.specs.Past.{Past, NextPicture, TakeJob, Report, Hear, opened, pictures}
 use Rattle.sal_sender.specs.OneThread.{Session}
-use Rattle.sal_sender.specs.Jobs.{Job, jobs}
+use Rattle.sal_sender.specs.Jobs.{jobs}
 use Rattle.sal_sender.specs.Choosing.{first_of}
 use Rattle.sal_sender.specs.Seats.{listed, first_in}
-use Rattle.sal_sender.specs.Answers.{starts, next_answer, take_answer, report_answer, heard_answer, waiting_jobs}
+use Rattle.sal_sender.specs.Answers.{starts, next_answer, heard_answer, waiting_jobs}
 use Rattle.sal_sender.specs.Promises.{Answers, Answered}
 use Rattle.sal_sender.specs.Work.{Work}
 use Rattle.sal_sender.specs.Stands.{work_of, IsOwnWork}
 use Rattle.sal_sender.specs.Stands.{Stands as SenderStands}
 use Rattle.sal_world.specs.declared.event.Answer.{Answer}
 use Rattle.sal_world.specs.declared.event.Answer.TheVariants.{Next as NextSaid, Take as TakeSaid, Report as ReportSaid, Up as UpSaid, Unsent, Memory}
-use Rattle.sal_world.specs.World.{Event, Next, Take, Reports, Up, World, sent, acks, member, hears, heard_back, happens}
+use Rattle.sal_world.specs.World.{Event, Next, Take, Reports, Up, World, acks, member, hears}
 use Rattle.sal_world.specs.Both.{Both}
-use Rattle.sal_world.specs.Handed.{next_job}
 use Rattle.sal_world.specs.Answers.{next_said, is_stranger, is_ignored, up_answer}
 use Rattle.sal_world.specs.Stands.{IsWorld, Happened}
 use Rattle.sal_world.proofs.ListLemmas.{some_same}

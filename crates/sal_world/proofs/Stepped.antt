@@ -1,10 +1,8 @@
 -- What a step makes of the events, and what it is answered where names differ.
 use Rattle.std.proofs.Common.{◌≡◌, ℕ, true, List, [], ◌∷◌, Option, Some, None, refl, ap, sym, ◌∙◌, subst, ◌⊎◌, inl, inr}
 use Rattle.sal_base.specs.Lists.{Each}
-use Rattle.sal_codec.specs.Coding.{Coding, IsLawful}
+use Rattle.sal_codec.specs.Coding.{Coding}
 use Rattle.sal_wire.specs.declared.datagram.Ack.{Ack}
-use Rattle.sal_wire.specs.Reading.{came}
-use Rattle.sal_wire.specs.Spelling.{ack_text}
 use Rattle.sal_sender.specs.declared.answers.Chosen.{Chosen}
 use Rattle.sal_sender.specs.declared.answers.Chosen.TheVariants.{NoPicture, Waiting, Sent, Nothing, Memory as ChosenMemory}
 use Rattle.sal_sender.specs.OneThread.{Session}
@@ -13,18 +11,18 @@ use Rattle.sal_receiver.specs.declared.answers.Done.{Done}
 use Rattle.sal_receiver.specs.declared.answers.Done.TheVariants.{Stranger, Returned, Unfit, Misnamed, Older, Show}
 use Rattle.sal_sender.specs.Stands.{IsOwnWork}
 use Rattle.sal_receiver.specs.Work.{IsFrameOf}
-use Rattle.sal_receiver.specs.Past.{Call, Outcome, Decoding}
+use Rattle.sal_receiver.specs.Past.{Outcome, Decoding}
 use Rattle.sal_receiver.specs.Promises.{IsFit as IsFitCall}
 use Rattle.sal_receiver.specs.Ready.{ready, frame, decoding_of}
 use Rattle.sal_receiver.specs.Answers.{decoded_answer}
 use Rattle.sal_world.specs.declared.event.Event.{Event as Given}
 use Rattle.sal_world.specs.declared.event.Event.TheVariants.{Next as GivenNext, Take as GivenTake, Report as GivenReport, Choose as GivenChoose, Down as GivenDown, Up as GivenUp, Ready as GivenReady, Decoded as GivenDecoded, Moment as GivenMoment}
 use Rattle.sal_world.specs.declared.event.Answer.{Answer}
-use Rattle.sal_world.specs.declared.event.Answer.TheVariants.{Decoded as DecodedSaid, Memory}
+use Rattle.sal_world.specs.declared.event.Answer.TheVariants.{Decoded as DecodedSaid}
 use Rattle.sal_world.proofs.OwnJobs.{own_job, own_size}
 use Rattle.sal_world.proofs.OwnFrames.{own_frame}
 use Rattle.sal_world.specs.World.{Event, Next, Take, Reports, Chooses, Down, Up, Ready, Decodes, Moment, World, sent, acks, member, delivers, hears, happens, after}
-use Rattle.sal_world.specs.Promises.{IsSession, IsOfSize, Names, Holds, NothingIsRefused}
+use Rattle.sal_world.specs.Promises.{IsOfSize, Holds, NothingIsRefused}
 use Rattle.sal_world.specs.Both.{Both}
 use Rattle.sal_world.specs.Answers.{said, takes_memory, chosen_said, down_answer, up_answer, answer_to, IsHonest}
 use Rattle.sal_world.specs.Stands.{IsWorld, Stands, IsFit, May, Happened, Stepped}

@@ -1,5 +1,5 @@
 -- A world stands for one more call of either end.
-use Rattle.std.proofs.Common.{◌≡◌, ℕ, zero, suc, max, List, [], ◌∷◌, ◌++◌, length, map, Option, Some, None, refl, ap, sym, ◌∙◌, subst, inl, inr}
+use Rattle.std.proofs.Common.{◌≡◌, ℕ, zero, suc, List, [], ◌∷◌, ◌++◌, length, map, refl, ap, sym, ◌∙◌, subst}
 use Rattle.std.proofs.lemmas.List.{append-nil}
 use Rattle.std.specs.Option.{option_map}
 use Rattle.std.specs.Prelude.{slice_get}
@@ -14,7 +14,7 @@ use Rattle.sal_sender.specs.Stands.{Stands as SenderStands}
 use Rattle.sal_receiver.specs.Past.{Call}
 use Rattle.sal_receiver.specs.Machine.{Book}
 use Rattle.sal_receiver.specs.Machine.{Stands as ReceiverStands}
-use Rattle.sal_world.specs.World.{World, sent, acks, acks_of, ack_in, member, after}
+use Rattle.sal_world.specs.World.{World, acks, acks_of, ack_in, member, after}
 use Rattle.sal_world.specs.Both.{Both}
 use Rattle.sal_world.specs.Promises.{IsSession}
 use Rattle.sal_world.specs.Stands.{IsWorld, Stands}

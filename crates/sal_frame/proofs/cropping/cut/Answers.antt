@@ -1,4 +1,4 @@
-use Rattle.std.proofs.Common.{rules, ◌≡◌, ◌≤◌, ◌+◌, ◌-◌, ◌*◌, ◌++◌, length, ℕ, ap, sym, ◌∙◌, subst, arith}
+use Rattle.std.proofs.Common.{◌≡◌, ◌≤◌, ◌+◌, ◌-◌, ◌*◌, ◌++◌, length, ap, ◌∙◌, subst, arith}
 use Rattle.sal_base.specs.Pictures.{plane}
 use Rattle.sal_base.specs.Samples.{rows_cut}
 use Rattle.sal_frame.proofs.RowsCut.{Onward, next_row, no_row, longer}

@@ -1,4 +1,4 @@
-use Rattle.std.proofs.Common.{◌≡◌, ◌∙◌, Bool, subst, sym}
+use Rattle.std.proofs.Common.{◌≡◌, ◌∙◌, subst, sym}
 use Rattle.sal_transform.specs.Steps.{Steps}
 use Rattle.sal_frame.specs.Records.{macroblock}
 use Rattle.sal_frame.specs.Residues.{luma_residues}

@@ -1,6 +1,6 @@
 use Rattle.std.proofs.Common.{refl, ◌≡◌, ◌+◌, ◌-◌, arith}
 use Rattle.sal_base.specs.Samples.{rows_put}
-use Rattle.sal_frame.proofs.Squares.{rows_more, row_within}
+use Rattle.sal_frame.proofs.Squares.{rows_more}
 use Rattle.sal_frame.proofs.square.put_rows.Goals as goal
 
 pub loop-row-init : goal.loop-row-init

@@ -1,4 +1,4 @@
-use Rattle.std.proofs.Common.{◌≡◌, ◌*◌, ℕ, ℤ, pos, ap, arith, refl, to_z, of_z, w8}
+use Rattle.std.proofs.Common.{◌≡◌, ◌*◌, ℕ, pos, ap, arith, refl, to_z, of_z, w8}
 use Rattle.std.proofs.lemmas.Int.{ints}
 use Rattle.sal_transform.specs.Steps.{steps_of}
 use Rattle.sal_frame.specs.Records.{segment_steps}

@@ -1,4 +1,4 @@
-use Rattle.std.proofs.Common.{◌≡◌, ◌∙◌, ℕ, refl, ap, sym}
+use Rattle.std.proofs.Common.{◌≡◌, ◌∙◌, refl}
 use Rattle.sal_frame.specs.Built.{subs_built}
 use Rattle.sal_frame.proofs.SubSteps.{sub_more}
 use Rattle.sal_frame.proofs.subs.subs_built.Goals as goal

@@ -1,4 +1,4 @@
-use Rattle.std.proofs.Common.{◌≡◌, Bool, false, true, [], ◌∷◌, inl, inr}
+use Rattle.std.proofs.Common.{◌≡◌, false, true, [], ◌∷◌, inl, inr}
 use Rattle.std.specs.Prelude.{◌⊎◌}
 use Rattle.sal_world.specs.World.{Moment}
 use Rattle.sal_world.proofs.tests.passes_and_takes.Goals as goal

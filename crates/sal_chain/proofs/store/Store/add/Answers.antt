@@ -2,7 +2,6 @@ use Rattle.std.proofs.Common.{◌≡◌, ◌<◌, List, map, length, arith, ap, 
 use Rattle.std.proofs.lemmas.List.{length-map}
 use Rattle.std.specs.Arc.{arc_value}
 use Rattle.sal_chain.specs.declared.kept.Kept.{Kept}
-use Rattle.sal_chain.specs.Held.{placed}
 use Rattle.sal_chain.specs.Shelf.{IsShelf}
 use Rattle.sal_chain.specs.Shares.{seen}
 use Rattle.sal_chain.proofs.ShelfLemmas.{room_left, shelf_placed, shelf_added}

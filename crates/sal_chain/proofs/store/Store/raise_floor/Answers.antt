@@ -1,4 +1,4 @@
-use Rattle.std.proofs.Common.{◌≡◌, List, map, max, arith, ap, sym, subst, ◌∙◌}
+use Rattle.std.proofs.Common.{◌≡◌, List, map, arith, ap, sym, subst, ◌∙◌}
 use Rattle.sal_chain.specs.declared.kept.Kept.{Kept}
 use Rattle.sal_chain.specs.Shelf.{IsShelf}
 use Rattle.sal_chain.specs.Shares.{seen}

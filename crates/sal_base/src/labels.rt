@@ -1,12 +1,12 @@
-//! Numbers with names.
+//! A short list of states.
 
 ghost use Rattle.std.specs.Prelude.{◌≡◌, ◌∷◌, ◌++◌, ◌<◌, ◌≤◌, [], length};
 
-use sal_base::Name;
+use crate::name::Name;
 use std::marker::Model;
 
-/// Numbers with the names of their states, at most 16, which contracts see as a list. (An `ArrayVec` would want a `Name`
-/// to have a default.)
+/// States by number and name, at most 16: what a receiver holds, and what it says in an acknowledgement. Contracts see
+/// them as a list. (An `ArrayVec` would want a `Name` to have a default.)
 #[derive(Drop)]
 pub struct Labels {
     states: [(u32, Name); 16],
@@ -26,7 +26,7 @@ impl Model for Labels {
 
 impl Labels {
     /// No numbers.
-    pub(crate) fn new() -> Self
+    pub fn new() -> Self
         ensures { result ≡ [] }
     {
         Labels {
@@ -44,7 +44,7 @@ impl Labels {
     }
 
     /// Adds a number at the end, where there is room.
-    pub(crate) fn push(&mut self, number: u32, name: Name)
+    pub fn push(&mut self, number: u32, name: Name)
         requires { length self.old < 16 }
         ensures { self.new ≡ self.old ++ (number, name) ∷ [] }
     {
