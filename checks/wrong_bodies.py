@@ -10,6 +10,7 @@ pass; one whose old line is gone is stale, and is named.
 """
 import os
 import re
+import signal
 import subprocess
 import sys
 
@@ -60,17 +61,26 @@ def batches(folder, bodies):
     return [group for _, group in groups]
 
 
+def changed(text, steps):
+    """A file's text with each old line replaced where it stands in the text as it was, whatever the other steps write."""
+    for at, old, new in sorted(((text.find(old), old, new) for old, new in steps), reverse=True):
+        text = text[:at] + new + text[at + len(old) :]
+    return text
+
+
 def verdicts(folder, group):
     """What `rt check` says of each function with these wrong bodies in place."""
-    kept = {}
+    kept, steps_of = {}, {}
+    for _, _, steps, _ in group:
+        for file, old, new in steps:
+            steps_of.setdefault(f"{folder}/{file}", []).append((old, new))
+    for path in steps_of:
+        with open(path, encoding="utf-8") as it:
+            kept[path] = it.read()
     try:
-        for _, _, steps, _ in group:
-            for file, old, new in steps:
-                path = f"{folder}/{file}"
-                text = open(path, encoding="utf-8").read()
-                kept.setdefault(path, text)
-                with open(path, "w", encoding="utf-8") as it:
-                    it.write(text.replace(old, new))
+        for path, steps in steps_of.items():
+            with open(path, "w", encoding="utf-8") as it:
+                it.write(changed(kept[path], steps))
         ran = subprocess.run(["rt", "check", "--allow-holes"], cwd=folder, stdout=subprocess.PIPE, stderr=subprocess.STDOUT, text=True)
     finally:
         for path, text in kept.items():
@@ -102,4 +112,7 @@ def main(words):
 
 
 if __name__ == "__main__":
+    # A stop from outside ends by way of `finally`, which puts the sources back.
+    for number in (signal.SIGTERM, signal.SIGHUP):
+        signal.signal(number, lambda number, _: sys.exit(128 + number))
     sys.exit(main(sys.argv[1:]))

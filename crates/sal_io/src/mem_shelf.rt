@@ -1,6 +1,6 @@
 //! A shelf in memory.
 
-ghost use Rattle.std.specs.Prelude.{◌≡◌, ◌+◌, ◌||◌, true, [], map, drop, Some, is_none, IfOk, OnOk, OnErr, Err};
+ghost use Rattle.std.specs.Prelude.{◌≡◌, ◌+◌, ◌≤◌, ◌++◌, ◌∷◌, ◌||◌, true, [], map, drop, Some, is_none, IfOk, OnOk, OnErr, Err};
 ghost use Rattle.sal_io.specs.Failing.{next_call, is_to_fail, faults_after, shelf_failed};
 ghost use Rattle.sal_io.specs.Calls.{IsRaised, HasCause, IsOpened, IsCreated};
 ghost use Rattle.std.specs.Bool.{OnTrue, OnFalse};
@@ -174,11 +174,27 @@ impl Shelf for MemShelf {
         Ok(MemSink::new(name, Bytes::new(alloc), failing))
     }
 
-    fn shut_in(&mut self, source: MemSource) {
+    fn shut_in(&mut self, source: MemSource)
+        requires { 1 ≤ self.old.ledger.spare }
+        ensures spare { self.new.ledger.spare + 1 ≡ self.old.ledger.spare }
+        ensures pasts { map past_of self.new.ledger.shut.items ≡ map past_of self.old.ledger.shut.items ++ past_of (Shut.Source source) ∷ [] }
+        ensures calls { self.new.calls ≡ self.old.calls }
+        ensures failing { self.new.failing ≡ self.old.failing }
+        ensures faults { self.new.faults ≡ self.old.faults }
+        ensures files { self.new.files ≡ self.old.files }
+    {
         self.ledger.put(Shut::Source(source));
     }
 
-    fn shut_out(&mut self, sink: MemSink) {
+    fn shut_out(&mut self, sink: MemSink)
+        requires { 1 ≤ self.old.ledger.spare }
+        ensures spare { self.new.ledger.spare + 1 ≡ self.old.ledger.spare }
+        ensures pasts { map past_of self.new.ledger.shut.items ≡ map past_of self.old.ledger.shut.items ++ past_of (Shut.Sink sink) ∷ [] }
+        ensures calls { self.new.calls ≡ self.old.calls }
+        ensures failing { self.new.failing ≡ self.old.failing }
+        ensures faults { self.new.faults ≡ self.old.faults }
+        ensures files { self.new.files ≡ self.old.files }
+    {
         self.ledger.put(Shut::Sink(sink));
     }
 }
