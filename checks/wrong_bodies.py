@@ -15,7 +15,7 @@ import subprocess
 import sys
 
 ROOT = os.path.dirname(os.path.dirname(os.path.abspath(__file__)))
-HEAD = re.compile(r"^(\s*)(?:pub(?:\(crate\))? )?(?:const )?(?:unsafe )?fn (\w+)", re.M)
+HEAD = re.compile(r"^([ \t]*)(?:pub(?:\(crate\))? )?(?:const )?(?:unsafe )?fn (\w+)", re.M)
 
 
 def blocks(path):
@@ -45,11 +45,12 @@ def function_of(folder, file, old):
 
 
 def batches(folder, bodies):
-    """The wrong bodies in groups, no two of one function; one outside of all functions stands alone."""
-    groups = []
+    """The wrong bodies in groups, no two of one function, and how many are stale; one outside of all functions stands alone."""
+    groups, stale = [], 0
     for name, right, steps in bodies:
         if any(open(f"{folder}/{file}", encoding="utf-8").read().count(old) != 1 for file, old, _ in steps):
             print(f"{name}: stale")
+            stale += 1
             continue
         where = {function_of(folder, file, old) for file, old, _ in steps}
         room = None in where or next((it for it in groups if not where & it[0] and None not in it[0]), None)
@@ -58,7 +59,7 @@ def batches(folder, bodies):
         else:
             room[0].update(where)
             room[1].append((name, right, steps, where))
-    return [group for _, group in groups]
+    return [group for _, group in groups], stale
 
 
 def changed(text, steps):
@@ -93,9 +94,11 @@ def main(words):
     if not words or not os.path.isfile(f"{ROOT}/checks/wrong_bodies/{words[0]}.txt"):
         print(__doc__)
         return 2
-    folder, wanted, passed = f"{ROOT}/crates/{words[0]}", words[1:], 0
+    folder, wanted = f"{ROOT}/crates/{words[0]}", words[1:]
     bodies = [it for it in blocks(f"{ROOT}/checks/wrong_bodies/{words[0]}.txt") if not wanted or it[0] in wanted]
-    for group in batches(folder, bodies):
+    groups, stale = batches(folder, bodies)
+    passed = 0
+    for group in groups:
         said, whole = verdicts(folder, group)
         if not said:
             print(f"not tried: {', '.join(it[0] for it in group)}\n" + "\n".join(it for it in whole.split("\n") if "error" in it)[:900])
@@ -107,8 +110,8 @@ def main(words):
             refused = any(it not in ("proved", "no holes") for it in own)
             print(f"{name}: {'refused' if refused else 'PASSES, as a right body may' if right else 'PASSES'}", flush=True)
             passed += not refused and not right
-    print(f"{len(bodies)} wrong bodies, {passed} not refused")
-    return 1 if passed else 0
+    print(f"{len(bodies)} wrong bodies, {passed} not refused, {stale} stale")
+    return 1 if passed or stale else 0
 
 
 if __name__ == "__main__":
