@@ -41,7 +41,7 @@ sub_vector_entries = Leaf 0 ∷ Pair 2 ∷ Leaf 1 ∷ Pair 4 ∷ Leaf 2 ∷ Leaf
 unfoldable pub short_vector_entries : List Entry
 short_vector_entries = Pair 2 ∷ Pair 8 ∷ Pair 4 ∷ Pair 6 ∷ Leaf 0 ∷ Leaf 1 ∷ Leaf 2 ∷ Leaf 3 ∷ Pair 10 ∷ Pair 12 ∷ Leaf 4 ∷ Leaf 5 ∷ Leaf 6 ∷ Leaf 7 ∷ []
 
--- a token of a block (13.2): leaves 0 EOB, 1 T0, 2 T1, 3 T2, 4 T3, 5 T4, 6 C1, 7 C2, 8 C3, 9 C4, 10 C5, 11 C6
+-- a token of a block (13.2): leaves 0 end of block, 1 to 5 the levels 0 to 4, 6 to 11 the categories 1 to 6
 unfoldable pub token_entries : List Entry
 token_entries =
     Leaf 0 ∷ Pair 2 ∷ Leaf 1 ∷ Pair 4 ∷ Leaf 2 ∷ Pair 6 ∷ Pair 8 ∷ Pair 12 ∷ Leaf 3 ∷ Pair 10

@@ -239,7 +239,7 @@ static TOKEN: Tree = Tree {
 };
 
 /// A token of a block (13.2).
-/// Its leaves, from 0: EOB, T0, T1, T2, T3, T4, C1, C2, C3, C4, C5, C6.
+/// Its leaves, from 0: end of block, the levels 0 to 4, the categories 1 to 6 (RFC 6386, section 13.2).
 #[tactic(auto, unfolding(crate::specs::Trees::token_entries))]
 pub fn token_tree() -> &'static Tree
     ensures digits { result.now.entries.now ≡ token_entries }
