@@ -3,7 +3,7 @@
 use crate::bytes::Bytes;
 use crate::picture::Picture;
 
-/// Whether a frame stands alone.
+/// The kind of a frame (RFC 6386, section 9.1).
 #[derive(Clone, Copy, Debug, PartialEq, Eq)]
 pub enum Kind {
     /// It is decoded from any state.
@@ -36,14 +36,18 @@ pub enum Fault {
 /// What an encoder made of a picture.
 #[derive(Debug, Drop)]
 pub enum Encoding<S> {
-    /// A frame with the state that it leads to and the picture that a decoder of it shows.
+    /// A frame.
     Frame {
+        /// The frame's bytes.
         bytes: Bytes,
+        /// The state that decoding them gives.
         target: S,
+        /// The reconstruction: the picture that a decoder of them shows.
         recon: Picture,
     },
-    /// The first partition would have this many bytes, more than its field can say.
+    /// No frame, since its first partition is larger than its field of 19 bits can say (RFC 6386, section 9.1).
     Oversize {
+        /// How many bytes the first partition would have.
         first: u32,
     },
 }
@@ -53,6 +57,7 @@ pub enum Encoding<S> {
 pub struct Decoded<S> {
     /// The next state.
     pub state: S,
+    /// The decoded picture.
     pub picture: Picture,
     /// The frame's flag show_frame (RFC 6386, section 9.1).
     pub shown: bool,
@@ -63,5 +68,6 @@ pub struct Decoded<S> {
 pub enum DecodeFault {
     /// The bytes are no frame of this state.
     Bad(Fault),
+    /// There was no memory to decode it.
     Memory,
 }

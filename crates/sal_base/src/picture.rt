@@ -4,31 +4,43 @@ ghost use Rattle.std.specs.Prelude.{◌≡◌, ◌↔◌, IsTrue, IfOk, IsErrOf}
 ghost use Rattle.sal_base.specs.Picture.{AreSides, plane_of, flat_picture, IsPlane, IsPicture};
 
 use crate::bytes::Bytes;
+use crate::limits::{MAX_HEIGHT, MAX_WIDTH};
 use std::alloc::{AllocError, Global};
 
 /// The samples of one colour: `width * height` of them, row by row.
 #[derive(Debug, Drop)]
 pub struct Plane {
+    /// Samples in a row.
     pub width: u16,
+    /// Rows.
     pub height: u16,
+    /// The samples, row by row from the top, each row from the left.
     pub samples: Bytes,
 }
 
 /// The planes of whole macroblocks: luma sides are multiples of 16, chroma sides are half of them.
 #[derive(Debug, Drop)]
 pub struct Planes {
+    /// Luma.
     pub y: Plane,
+    /// Chroma, blue less luma.
     pub u: Plane,
+    /// Chroma, red less luma.
     pub v: Plane,
 }
 
 /// A picture in samples of luma; the sides of the chroma planes are halved, rounded up.
 #[derive(Debug, Drop)]
 pub struct Picture {
+    /// Samples of luma in a row, 1 to 1,280.
     pub width: u16,
+    /// Rows of luma, 1 to 720.
     pub height: u16,
+    /// Luma.
     pub y: Plane,
+    /// Chroma, blue less luma.
     pub u: Plane,
+    /// Chroma, red less luma.
     pub v: Plane,
 }
 
@@ -37,14 +49,9 @@ pub struct Picture {
 pub enum PictureFault {
     /// A side is 0 or above its limit.
     BadSize,
+    /// There was no memory for its planes.
     Memory,
 }
-
-/// The widest picture, in samples of luma.
-pub const MAX_WIDTH: u16 = 1280;
-
-/// The highest picture, in samples of luma.
-pub const MAX_HEIGHT: u16 = 720;
 
 /// Whether a picture may have these sides.
 pub fn are_sides(width: u16, height: u16) -> bool

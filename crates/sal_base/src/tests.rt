@@ -51,11 +51,14 @@ fn bytes_grow_and_lend(rt: HostRuntime) -> Result<(), Fail> {
 
 #[test]
 fn numbers_in_front(rt: HostRuntime) -> Result<(), Fail> {
-    assert_eq!(rt; number(b"16 H"), Some((16, b" H".as_slice())));
-    assert_eq!(rt; number(b"4294967295"), Some((4294967295, b"".as_slice())));
-    assert_eq!(rt; number(b"4294967296"), None);
-    assert_eq!(rt; number(b"00000000001"), None);
-    assert_eq!(rt; number(b"x1"), None);
+    assert_eq!(rt; leading_number(b"16 H"), Some((16, b" H".as_slice())));
+    assert_eq!(rt;
+        leading_number(b"4294967295"),
+        Some((4294967295, b"".as_slice()))
+    );
+    assert_eq!(rt; leading_number(b"4294967296"), None);
+    assert_eq!(rt; leading_number(b"00000000001"), None);
+    assert_eq!(rt; leading_number(b"x1"), None);
     assert!(rt; are_sides(16, 16));
     let memory: Memory = std::alloc::AllocError.into();
     assert_eq!(rt; memory, Memory);

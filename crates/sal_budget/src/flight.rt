@@ -17,18 +17,23 @@ pub struct Flight {
 }
 
 /// The datagrams that may be on their way at once, at most.
-const WIDEST: u32 = 4096;
+pub const MAX_IN_FLIGHT: u32 = 4096;
 
-/// After this long without a send or a new acknowledgement nothing counts as being on its way: half a second.
-const SILENCE: u64 = 500_000;
+/// How long the datagrams on their way may take to arrive, in microseconds: 100 milliseconds.
+pub const QUEUE: u32 = 100_000;
 
-/// How many datagrams may be sent at this moment: the window, which is what fits into 100 milliseconds at the average gap
-/// of the receiver's arrivals but never under `least`, less those on their way.
+/// After so long without a send or a new acknowledgement no datagram counts as being on its way, in microseconds: half a
+/// second.
+pub const SILENCE: u64 = 500_000;
+
+/// How many datagrams may be sent at this moment, at most 4,096: the congestion window, which is what arrives in 100
+/// milliseconds at the average gap of the receiver (in microseconds) but never under `least` datagrams, less those on
+/// their way. The moment is in microseconds.
 pub fn budget(average: u32, least: u32, flight: &Flight, moment: u64) -> u32
     requires { flight.now.heard ≤ flight.now.sent }
     ensures { result ≡ budget_of average least flight.now moment }
 {
-    let window = least.max(100_000 / average.max(1)).min(WIDEST);
+    let window = least.max(QUEUE / average.max(1)).min(MAX_IN_FLIGHT);
     let quiet = moment.saturating_sub(flight.sent_at.max(flight.heard_at));
     let in_flight = if quiet >= SILENCE {
         0

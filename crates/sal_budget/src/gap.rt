@@ -6,19 +6,22 @@ ghost use Rattle.sal_budget.specs.Gap.{no_arrival, arrived};
 /// What a receiver keeps of the arrivals so far.
 #[derive(Clone, Copy, Debug, PartialEq, Eq)]
 pub struct Gap {
-    /// The moving average of the gaps, in microseconds.
+    /// The moving average of the gaps, in microseconds, at most 10,000,000.
     pub average: u32,
-    /// The moment of the last arrival that counted.
+    /// The moment of the last arrival that counted, in microseconds.
     pub last: Option<u64>,
-    /// The greatest serial, 0 before any.
+    /// The greatest serial that came, 0 before any.
     pub greatest: u32,
 }
 
-/// The average before there are two arrivals, in microseconds.
-const FIRST_AVERAGE: u32 = 10_000;
+/// The average before there are two arrivals, in microseconds: 10 milliseconds.
+pub const FIRST_AVERAGE: u32 = 10_000;
 
-/// The greatest average: ten seconds.
-const GREATEST_AVERAGE: u64 = 10_000_000;
+/// The greatest average, in microseconds: ten seconds.
+pub const MAX_AVERAGE: u64 = 10_000_000;
+
+/// The parts that make an average: one is the newest gap, the others the average before.
+pub const AVERAGE_PARTS: u64 = 8;
 
 impl Gap {
     /// Before any arrival.
@@ -43,8 +46,8 @@ impl Gap {
         }
         if let Some(last) = self.last {
             let since = moment.saturating_sub(last).saturating_sub(pause as u64);
-            let sum = since.saturating_add(7 * self.average as u64);
-            self.average = (sum / 8).min(GREATEST_AVERAGE) as u32;
+            let sum = since.saturating_add((AVERAGE_PARTS - 1) * self.average as u64);
+            self.average = (sum / AVERAGE_PARTS).min(MAX_AVERAGE) as u32;
         }
         self.last = Some(moment);
         self.greatest = serial;

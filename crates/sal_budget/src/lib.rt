@@ -3,9 +3,11 @@
 
 mod flight;
 mod gap;
+mod least;
 
-pub use flight::{Flight, budget};
-pub use gap::Gap;
+pub use flight::{Flight, MAX_IN_FLIGHT, QUEUE, SILENCE, budget};
+pub use gap::{AVERAGE_PARTS, FIRST_AVERAGE, Gap, MAX_AVERAGE};
+pub use least::{LEAST_WINDOW, MACROBLOCK, MACROBLOCKS_EACH};
 
 #[cfg(test)]
 mod tests;

@@ -1,3 +1,3 @@
 pub mod HeldLemmas
 pub mod Sharing
-pub mod ShelfLemmas
+pub mod TableLemmas

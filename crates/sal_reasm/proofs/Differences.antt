@@ -4,7 +4,7 @@ use Rattle.std.proofs.lemmas.List.{drop_more, length-drop}
 use Rattle.std.specs.declared.option.Option.{Option}
 use Rattle.std.specs.declared.option.Option.TheVariants.{Some, None}
 use Rattle.std.proofs.lemmas.Bool.{eqb-true, eq-eqb, ne_eqb}
-use Rattle.sal_reasm.specs.declared.offered.ClashField.{ClashField}
+use Rattle.sal_reasm.specs.declared.answers.ClashField.{ClashField}
 use Rattle.sal_reasm.specs.Offer.{Difference, first_difference}
 
 both : (field : ClashField) (place : ℕ) (xs ys us vs : List ℕ) → xs ≡ us → ys ≡ vs → first_difference field place xs ys ≡ first_difference field place us vs

@@ -1,20 +1,32 @@
 -- Lists of parts, of which some are missing.
-use Rattle.std.proofs.Common.{◌≡◌, ℕ, zero, suc, ◌+◌, ◌-◌, ◌<◌, ◌≢◌, Bool, true, false, cond, List, [], ◌∷◌, ◌++◌, length, take, drop, set, replicate, get_or, flat_map, refl, ap, ◌∙◌, sym, arith, eqb, append_assoc}
+use Rattle.std.proofs.Common.{◌≡◌, ℕ, zero, suc, ◌+◌, ◌-◌, ◌<◌, ◌≤◌, ◌≢◌, Bool, true, false, cond, List, [], ◌∷◌, ◌++◌, length, take, drop, set, replicate, get_or, flat_map, refl, ap, ◌∙◌, sym, arith, eqb, append_assoc}
 use Rattle.std.proofs.lemmas.Bool.{eq-eqb, ne_eqb}
 use Rattle.std.proofs.lemmas.List.{length-drop, take_all}
 use Rattle.std.specs.List.{list_all}
 use Rattle.std.specs.Option.{is_some}
 use Rattle.std.specs.declared.option.Option.{Option}
 use Rattle.std.specs.declared.option.Option.TheVariants.{Some, None}
-use Rattle.sal_wire.specs.Entry.{Entry}
-use Rattle.sal_reasm.specs.declared.offered.Offered.{Offered}
-use Rattle.sal_reasm.specs.declared.offered.Offered.TheVariants.{Complete, Kept}
-use Rattle.sal_reasm.specs.Window.{Frame}
-use Rattle.sal_reasm.specs.Step.{data_of, gaps, filled, answer_of}
+use Rattle.sal_base.specs.Lists.{Each}
+use Rattle.sal_wire.specs.declared.layout.TheConstants.{MAX_DATA}
+use Rattle.sal_wire.specs.Fields.{FragmentFields}
+use Rattle.sal_reasm.specs.declared.answers.Offered.{Offered}
+use Rattle.sal_reasm.specs.declared.answers.Offered.TheVariants.{Complete, Kept}
+use Rattle.sal_reasm.specs.SlotTable.{PartialFrame}
+use Rattle.sal_reasm.specs.Step.{data_of, gaps, filled, answer_of, IsShort}
 
 pub gaps_none : (n : ℕ) → gaps (replicate n None) ≡ n
 gaps_none zero = refl
 gaps_none (suc n) = ap suc (gaps_none n)
+
+-- no part came, so none is long
+pub none_short : (n : ℕ) → Each IsShort (replicate n None)
+none_short zero = tt
+none_short (suc n) = (tt, none_short n)
+
+pub set_short : (parts : List (Option (List ℕ))) (i : ℕ) (bytes : List ℕ) → Each IsShort parts → length bytes ≤ MAX_DATA → Each IsShort (set parts i (Some bytes))
+set_short [] i bytes are short = are
+set_short (x ∷ parts) zero bytes are short = (short, are.1)
+set_short (x ∷ parts) (suc i) bytes are short = (are.0, set_short parts i bytes are.1 short)
 
 pub gaps_set : (parts : List (Option (List ℕ))) (i : ℕ) (bytes : List ℕ) → i < length parts → get_or parts i None ≡ None → suc (gaps (set parts i (Some bytes))) ≡ gaps parts
 gaps_set [] i bytes h e = absurd (omega arith)
@@ -56,30 +68,30 @@ answer_if : (b : Bool) (bytes : List ℕ) (all : Bool) → all ≡ b → ◌≡�
 answer_if b bytes all e = ap (λ (x : Bool). cond x (Complete bytes) Kept) e
 
 -- where one part is missing, the frame with its data is complete
-pub answer_last : (f : Frame) (e : Entry) → gaps f.parts ≡ 1 → e.index < length f.parts → get_or f.parts e.index None ≡ None → answer_of (filled f e) ≡ Complete (flat_map data_of (set f.parts e.index (Some e.bytes)))
+pub answer_last : (f : PartialFrame) (e : FragmentFields) → gaps f.parts ≡ 1 → e.index < length f.parts → get_or f.parts e.index None ≡ None → answer_of (filled f e) ≡ Complete (flat_map data_of (set f.parts e.index (Some e.bytes)))
 answer_last f e one h none =
     let g = gaps_set f.parts e.index e.bytes h none in
     let zero_left : gaps (set f.parts e.index (Some e.bytes)) ≡ 0 = omega arith in
     answer_if true (flat_map data_of (set f.parts e.index (Some e.bytes))) (list_all is_some (set f.parts e.index (Some e.bytes))) (all_there (set f.parts e.index (Some e.bytes)) ∙ eq-eqb _ _ zero_left)
 
 -- and where more are missing it is kept
-pub answer_more : (f : Frame) (e : Entry) → gaps f.parts ≢ 1 → e.index < length f.parts → get_or f.parts e.index None ≡ None → answer_of (filled f e) ≡ Kept
+pub answer_more : (f : PartialFrame) (e : FragmentFields) → gaps f.parts ≢ 1 → e.index < length f.parts → get_or f.parts e.index None ≡ None → answer_of (filled f e) ≡ Kept
 answer_more f e more h none =
     let g = gaps_set f.parts e.index e.bytes h none in
     answer_if false (flat_map data_of (set f.parts e.index (Some e.bytes))) (list_all is_some (set f.parts e.index (Some e.bytes))) (all_there (set f.parts e.index (Some e.bytes)) ∙ ne_eqb _ _ (λ z. more (omega arith)))
 
 -- the same of the fields of a slot
-pub last_answered : (f : Frame) (e : Entry) (items slice : List (Option (List ℕ))) (missing index : ℕ) (bytes : List ℕ) → items ≡ f.parts → missing ≡ gaps items → missing ≡ 1 → length f.parts ≡ e.count → e.index < e.count → get_or f.parts e.index None ≡ None
+pub last_answered : (f : PartialFrame) (e : FragmentFields) (items slice : List (Option (List ℕ))) (missing index : ℕ) (bytes : List ℕ) → items ≡ f.parts → missing ≡ gaps items → missing ≡ 1 → length f.parts ≡ e.count → e.index < e.count → get_or f.parts e.index None ≡ None
     → slice ≡ items → index ≡ e.index → bytes ≡ flat_map data_of (set slice index (Some e.bytes)) → ◌≡◌ {A = Offered} (Complete bytes) (answer_of (filled f e))
 last_answered f e items slice missing index bytes same m one count h none lent at joined =
     let g : gaps f.parts ≡ 1 = ap gaps (sym same) ∙ (sym m ∙ one) in
     let b : bytes ≡ flat_map data_of (set f.parts e.index (Some e.bytes)) = joined ∙ (ap (λ (z : List (Option (List ℕ))). flat_map data_of (set z index (Some e.bytes))) (lent ∙ same) ∙ ap (λ (k : ℕ). flat_map data_of (set f.parts k (Some e.bytes))) at) in
     ap (λ (z : List ℕ). Complete z) b ∙ sym (answer_last f e g (omega arith) none)
 
-pub more_answered : (f : Frame) (e : Entry) (items : List (Option (List ℕ))) (missing : ℕ) → items ≡ f.parts → missing ≡ gaps items → missing ≢ 1 → length f.parts ≡ e.count → e.index < e.count → get_or f.parts e.index None ≡ None → ◌≡◌ {A = Offered} Kept (answer_of (filled f e))
+pub more_answered : (f : PartialFrame) (e : FragmentFields) (items : List (Option (List ℕ))) (missing : ℕ) → items ≡ f.parts → missing ≡ gaps items → missing ≢ 1 → length f.parts ≡ e.count → e.index < e.count → get_or f.parts e.index None ≡ None → ◌≡◌ {A = Offered} Kept (answer_of (filled f e))
 more_answered f e items missing same m more count h none = sym (answer_more f e (λ one. more (m ∙ (ap gaps same ∙ one))) (omega arith) none)
 
-pub one_less : (f : Frame) (e : Entry) (items : List (Option (List ℕ))) (missing index : ℕ) (bytes : List ℕ) → items ≡ f.parts → missing ≡ gaps items → length f.parts ≡ e.count → e.index < e.count → get_or f.parts e.index None ≡ None → index ≡ e.index → suc (gaps (set items index (Some bytes))) ≡ missing
+pub one_less : (f : PartialFrame) (e : FragmentFields) (items : List (Option (List ℕ))) (missing index : ℕ) (bytes : List ℕ) → items ≡ f.parts → missing ≡ gaps items → length f.parts ≡ e.count → e.index < e.count → get_or f.parts e.index None ≡ None → index ≡ e.index → suc (gaps (set items index (Some bytes))) ≡ missing
 one_less f e items missing index bytes same m count h none at =
     let g : suc (gaps (set f.parts e.index (Some bytes))) ≡ gaps f.parts = gaps_set f.parts e.index bytes (omega arith) none in
     ap (λ (z : List (Option (List ℕ))). suc (gaps (set z index (Some bytes)))) same ∙ (ap (λ (k : ℕ). suc (gaps (set f.parts k (Some bytes)))) at ∙ (g ∙ (ap gaps (sym same) ∙ sym m)))

@@ -3,7 +3,7 @@ use Rattle.std.proofs.Common.{◌≡◌, ◌≢◌, ℕ, zero, suc, ◌+◌, ◌
 use Rattle.std.proofs.lemmas.Bool.{eqb-true, eqb-false, ltb-true, ltb-false}
 use Rattle.std.proofs.lemmas.List.{length-append, length-map, length-set, map-append, get_or_append_left, get_or-set_same, get_or-set_other, get_or-replicate, length-replicate, ext_get_or}
 use Rattle.std.proofs.Math.Seq.{get_or-append_seam}
-use Rattle.sal_wire.specs.Pieces.{below}
+use Rattle.sal_wire.specs.Fragmentation.{below}
 
 module _ {X : Type 0} (f : X → X) where
   kept_at : (xs : List X) (i : ℕ) (x y : X) → i < length xs → y ≡ f (get_or (map f (take i xs) ++ drop i xs) i x) → set (map f (take i xs) ++ drop i xs) i y ≡ map f (take (i + 1) xs) ++ drop (i + 1) xs

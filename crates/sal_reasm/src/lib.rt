@@ -1,14 +1,14 @@
-//! Frames put together from their fragments, whatever the order in which these come.
+//! Frames reassembled from their fragments, whatever the order in which these come.
 #![tactic(auto)]
 
-mod offered;
+mod answers;
+mod laws;
 mod slot;
 mod slots;
-mod whole;
 
-pub use offered::{ClashField, Offered};
+pub use answers::{CLASH_PLACE, ClashField, Offered};
+pub use laws::reassembles_what_was_split;
 pub use slots::Slots;
-pub use whole::joins_what_was_cut;
 
 #[cfg(test)]
 mod tests;

@@ -70,7 +70,7 @@ fn part(index: u16, count: u16, bytes: &[u8]) -> Case<'_> {
 }
 
 // Offers a case; nothing where it is no fragment, or for want of memory.
-#[tactic(auto, unfolding(sal_wire::specs::Spelling::name_text))]
+#[tactic(auto, unfolding(sal_wire::specs::Layout::name_bytes))]
 fn offered(slots: &mut Slots, alloc: Global, case: Case) -> Option<Offered> {
     let length = case.bytes.len();
     if case.floor == 0 || case.number < case.floor || case.number - case.floor > 15 {

@@ -2,8 +2,8 @@
 use Rattle.std.proofs.Common.{◌≡◌, ℕ, ◌<◌, ◌≤◌, Bool, true, false, cond, List, [], ◌∷◌, filter, map, Option, Some, None, refl, ap, sym, ◌∙◌, subst, arith, ltb, eqb, ◌⊎◌, inl, inr}
 use Rattle.std.proofs.lemmas.Bool.{eqb-true, cases_lt}
 use Rattle.sal_base.specs.Lists.{Has}
-use Rattle.sal_wire.specs.Entry.{Entry}
-use Rattle.sal_reasm.specs.Complete.{floor_of, parts_of, are_all}
+use Rattle.sal_wire.specs.Fields.{FragmentFields}
+use Rattle.sal_reasm.specs.Complete.{floor_of, fragments_of, has_all}
 use Rattle.sal_receiver.specs.Past.{with_taken}
 use Rattle.sal_receiver.specs.Ready.{least, smaller}
 
@@ -76,19 +76,19 @@ has_filter f (x ∷ xs) k is has = has_step (f x) f x xs k refl is has (has_filt
 
 -- ---- numbers of fragments
 
-parts_step : (b : Bool) (e : Entry) (es : List Entry) (n : ℕ) → eqb e.number n ≡ b → are_all (cond b (e ∷ parts_of n es) (parts_of n es)) ≡ true → (are_all (parts_of n es) ≡ true → Has (map (λ (e : Entry). e.number) es) n) → Has (map (λ (e : Entry). e.number) (e ∷ es)) n
+parts_step : (b : Bool) (e : FragmentFields) (es : List FragmentFields) (n : ℕ) → eqb e.number n ≡ b → has_all (cond b (e ∷ fragments_of n es) (fragments_of n es)) ≡ true → (has_all (fragments_of n es) ≡ true → Has (map (λ (e : FragmentFields). e.number) es) n) → Has (map (λ (e : FragmentFields). e.number) (e ∷ es)) n
 parts_step true e es n is all more = inl (sym (eqb-true _ _ is))
 parts_step false e es n is all more = inr (more all)
 
 -- a whole frame's number is that of a fragment
-pub parts_taken : (es : List Entry) (n : ℕ) → are_all (parts_of n es) ≡ true → Has (map (λ (e : Entry). e.number) es) n
+pub parts_taken : (es : List FragmentFields) (n : ℕ) → has_all (fragments_of n es) ≡ true → Has (map (λ (e : FragmentFields). e.number) es) n
 parts_taken [] n all = absurd (cc)
 parts_taken (e ∷ es) n all = parts_step (eqb e.number n) e es n refl all (parts_taken es n)
 
-grown_step : (b : Bool) (e : Entry) (es : List Entry) (n : ℕ) → Has (map (λ (e : Entry). e.number) es) n → Has (map (λ (e : Entry). e.number) (cond b es (e ∷ es))) n
+grown_step : (b : Bool) (e : FragmentFields) (es : List FragmentFields) (n : ℕ) → Has (map (λ (e : FragmentFields). e.number) es) n → Has (map (λ (e : FragmentFields). e.number) (cond b es (e ∷ es))) n
 grown_step true e es n has = has
 grown_step false e es n has = inr has
 
-pub grown : (o : Option Entry) (es : List Entry) (n : ℕ) → Has (map (λ (e : Entry). e.number) es) n → Has (map (λ (e : Entry). e.number) (with_taken o es)) n
+pub grown : (o : Option FragmentFields) (es : List FragmentFields) (n : ℕ) → Has (map (λ (e : FragmentFields). e.number) es) n → Has (map (λ (e : FragmentFields). e.number) (with_taken o es)) n
 grown None es n has = has
 grown (Some e) es n has = grown_step (ltb e.number (floor_of es)) e es n has

@@ -3,7 +3,7 @@ pub mod PartsLemmas
 pub mod Lasting
 pub mod LeastLemmas
 mod LabelLemmas
-mod Entering
+mod Offering
 mod Entered
 pub mod Handing
 mod EnteredIs
@@ -21,3 +21,4 @@ mod FeedLemmas
 pub mod Was
 pub mod Holding
 pub mod Served
+pub mod Rising

@@ -3,13 +3,13 @@ use Rattle.std.proofs.Common.{◌≡◌, ℕ, zero, suc, ◌+◌, ◌*◌, ◌<�
 use Rattle.std.proofs.lemmas.Bool.{eqb-true, and_parts, and_from, cases_lt}
 use Rattle.std.specs.List.{list_all, flat_map}
 use Rattle.std.specs.Option.{option_map}
-use Rattle.sal_wire.specs.Entry.{Entry}
-use Rattle.sal_wire.specs.Pieces.{below}
-use Rattle.sal_reasm.specs.declared.offered.ClashField.{ClashField}
-use Rattle.sal_reasm.specs.declared.offered.ClashField.TheVariants.{Source, Target, Count, Length, Data}
-use Rattle.sal_reasm.specs.Complete.{data_at, are_all, joined}
-use Rattle.sal_reasm.specs.Offer.{Difference, or_else, first_difference, unequal, data_clash, clash_of}
-use Rattle.sal_reasm.specs.Keeps.{AreNamed}
+use Rattle.sal_wire.specs.Fields.{FragmentFields}
+use Rattle.sal_wire.specs.Fragmentation.{below}
+use Rattle.sal_reasm.specs.declared.answers.ClashField.{ClashField}
+use Rattle.sal_reasm.specs.declared.answers.ClashField.TheVariants.{Source, Target, Count, Length, Data}
+use Rattle.sal_reasm.specs.Complete.{data_at, has_all, reassembled}
+use Rattle.sal_reasm.specs.Offer.{Difference, or_else, first_difference, unequal, data_clash, clash_with_fragments}
+use Rattle.sal_reasm.specs.Stands.{AreNamed}
 use Rattle.sal_receiver.specs.Ready.{source_in, target_in}
 
 -- ---- lists
@@ -75,13 +75,13 @@ data_none d b h =
     first_same Data 0 d b (unequal_none Length (length d) (length b) both.0) both.1
 
 -- source, target, count and the data of this index are the same
-pub record IsLike (p : Entry) (parts : List Entry) (e : Entry) : Type 0 where
+pub record IsLike (p : FragmentFields) (parts : List FragmentFields) (e : FragmentFields) : Type 0 where
   pub source : first_difference Source 0 p.source e.source ≡ None
   pub target : first_difference Target 0 p.target e.target ≡ None
   pub count : p.count ≡ e.count
   pub bytes : data_clash (data_at parts e.index) e.bytes ≡ None
 
-pub is_like : (p : Entry) (before : List Entry) (e : Entry) → clash_of (p ∷ before) e ≡ None → IsLike p (p ∷ before) e
+pub is_like : (p : FragmentFields) (before : List FragmentFields) (e : FragmentFields) → clash_with_fragments (p ∷ before) e ≡ None → IsLike p (p ∷ before) e
 is_like p before e h =
     let a = or_else_parts _ _ h in
     let b = or_else_parts _ _ a.1 in
@@ -90,46 +90,46 @@ is_like p before e h =
 
 -- ---- one more
 
-more_data : (e : Entry) (parts : List Entry) (k : ℕ) → is_some (data_at parts k) ≡ true → is_some (data_at (e ∷ parts) k) ≡ true
+more_data : (e : FragmentFields) (parts : List FragmentFields) (k : ℕ) → is_some (data_at parts k) ≡ true → is_some (data_at (e ∷ parts) k) ≡ true
 more_data e parts k h = step (eqb e.index k)
   where
-    step : (b : Bool) → is_some (option_map (λ (x : Entry). x.bytes) (cond b (Some e) (Rattle.std.specs.List.find (λ (x : Entry). eqb x.index k) parts))) ≡ true
+    step : (b : Bool) → is_some (option_map (λ (x : FragmentFields). x.bytes) (cond b (Some e) (Rattle.std.specs.List.find (λ (x : FragmentFields). eqb x.index k) parts))) ≡ true
     step true = refl
     step false = h
 
-same_data : (e : Entry) (parts : List Entry) (k : ℕ) → data_at parts e.index ≡ Some e.bytes → data_at (e ∷ parts) k ≡ data_at parts k
+same_data : (e : FragmentFields) (parts : List FragmentFields) (k : ℕ) → data_at parts e.index ≡ Some e.bytes → data_at (e ∷ parts) k ≡ data_at parts k
 same_data e parts k h = step (eqb e.index k) refl
   where
-    step : (b : Bool) → eqb e.index k ≡ b → option_map (λ (x : Entry). x.bytes) (cond b (Some e) (Rattle.std.specs.List.find (λ (x : Entry). eqb x.index k) parts)) ≡ data_at parts k
+    step : (b : Bool) → eqb e.index k ≡ b → option_map (λ (x : FragmentFields). x.bytes) (cond b (Some e) (Rattle.std.specs.List.find (λ (x : FragmentFields). eqb x.index k) parts)) ≡ data_at parts k
     step true is = sym h ∙ ap (λ i. data_at parts i) (eqb-true _ _ is)
     step false is = refl
 
 -- a frame that is whole stays so
-pub all_stay : (e : Entry) (parts : List Entry) → clash_of parts e ≡ None → are_all parts ≡ true → are_all (e ∷ parts) ≡ true
+pub all_stay : (e : FragmentFields) (parts : List FragmentFields) → clash_with_fragments parts e ≡ None → has_all parts ≡ true → has_all (e ∷ parts) ≡ true
 all_stay e [] like all = absurd (cc)
 all_stay e (p ∷ before) like all =
     subst (λ (n : ℕ). list_all (λ k. is_some (data_at (e ∷ p ∷ before) k)) (below n) ≡ true) (is_like p before e like).count
     (all_more (λ k. is_some (data_at (p ∷ before) k)) (λ k. is_some (data_at (e ∷ p ∷ before) k)) (λ k h. more_data e (p ∷ before) k h) (below p.count) all)
 
 -- each of its indexes is there
-pub index_there : (e : Entry) (parts : List Entry) → clash_of parts e ≡ None → e.index < e.count → are_all parts ≡ true → is_some (data_at parts e.index) ≡ true
+pub index_there : (e : FragmentFields) (parts : List FragmentFields) → clash_with_fragments parts e ≡ None → e.index < e.count → has_all parts ≡ true → is_some (data_at parts e.index) ≡ true
 index_there e [] like short all = absurd (cc)
 index_there e (p ∷ before) like short all =
     below_all (λ k. is_some (data_at (p ∷ before) k)) p.count e.index all (omega (arith, (is_like p before e like).count))
 
 -- these fragments say the same of their frame
-pub record IsSame (new old : List Entry) : Type 0 where
+pub record IsSame (new old : List FragmentFields) : Type 0 where
   pub source : source_in new ≡ source_in old
   pub target : target_in new ≡ target_in old
-  pub all : are_all new ≡ are_all old
-  pub bytes : joined new ≡ joined old
+  pub all : has_all new ≡ has_all old
+  pub bytes : reassembled new ≡ reassembled old
 
 some_is : (o : Option (List ℕ)) (b : List ℕ) → data_clash o b ≡ None → is_some o ≡ true → o ≡ Some b
 some_is None b like h = absurd (cc)
 some_is (Some d) b like h = ap (λ (x : List ℕ). Some x) (data_none d b like)
 
 -- a fragment that was there says nothing new
-pub same_again : (e : Entry) (parts : List Entry) → AreNamed parts → length e.source ≡ 16 → length e.target ≡ 16 → clash_of parts e ≡ None → is_some (data_at parts e.index) ≡ true → IsSame (e ∷ parts) parts
+pub same_again : (e : FragmentFields) (parts : List FragmentFields) → AreNamed parts → length e.source ≡ 16 → length e.target ≡ 16 → clash_with_fragments parts e ≡ None → is_some (data_at parts e.index) ≡ true → IsSame (e ∷ parts) parts
 same_again e [] named source target like there = absurd (cc)
 same_again e (p ∷ before) named source target like there =
     let is = is_like p before e like in

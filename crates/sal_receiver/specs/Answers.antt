@@ -6,14 +6,14 @@ use Rattle.sal_base.specs.Names.{same}
 use Rattle.sal_codec.specs.Coding.{Coding}
 use Rattle.sal_wire.specs.declared.fault.WireFault.{WireFault}
 use Rattle.sal_wire.specs.declared.datagram.Ack.{Ack}
-use Rattle.sal_wire.specs.Entry.{Entry}
-use Rattle.sal_wire.specs.Came.{Came, Part, Report, End}
-use Rattle.sal_reasm.specs.Complete.{floor_of, with_part}
-use Rattle.sal_reasm.specs.Offer.{Difference, clash}
+use Rattle.sal_wire.specs.Fields.{FragmentFields}
+use Rattle.sal_wire.specs.Message.{Message, FragmentMessage, AckMessage, ByeMessage}
+use Rattle.sal_reasm.specs.Complete.{floor_of, with_fragment}
+use Rattle.sal_reasm.specs.Offer.{Difference, clash_with_taken}
 use Rattle.sal_budget.specs.declared.gap.Gap.{Gap}
 use Rattle.sal_budget.specs.Gap.{gap_after}
-use Rattle.sal_chain.specs.declared.kept.Kept.{Kept}
-use Rattle.sal_chain.specs.Held.{in_order, from_floor, label}
+use Rattle.sal_chain.specs.declared.stored_state.StoredState.{StoredState}
+use Rattle.sal_chain.specs.Held.{in_order, not_below, number_and_name}
 use Rattle.sal_receiver.specs.declared.answers.Delivered.{Delivered}
 use Rattle.sal_receiver.specs.declared.answers.Delivered.TheVariants.{Taken, Ended, Refused}
 use Rattle.sal_receiver.specs.declared.answers.Refuse.{Refuse}
@@ -22,7 +22,7 @@ use Rattle.sal_receiver.specs.declared.answers.Done.{Done}
 use Rattle.sal_receiver.specs.declared.answers.Done.TheVariants.{Stranger, Returned, Unfit, Misnamed, Older, Show}
 use Rattle.sal_receiver.specs.declared.answers.Misfit.TheVariants.{Fault}
 use Rattle.sal_receiver.specs.declared.answers.Misfit.TheVariants.{Size as OtherSize}
-use Rattle.sal_receiver.specs.Past.{Call, Outcome, Sound, Faulty, NoMemory, taken, shown, now, session, head, head_of, arrivals, arrival_of}
+use Rattle.sal_receiver.specs.Past.{Call, DecodeResult, Sound, Faulty, NoMemory, taken, shown, now, session, head, head_of, arrivals, arrival_of}
 use Rattle.sal_receiver.specs.Held.{decoded, name_in}
 use Rattle.sal_receiver.specs.Ready.{is_out, target_name}
 
@@ -56,9 +56,9 @@ abbrev pub first_of : Option Refuse → Option Refuse → Option Refuse
 first_of None second = second
 first_of (Some cause) second = Some cause
 
-abbrev pub refusal : Option ℕ → Option Head → List Entry → Entry → Option Refuse
+abbrev pub refusal : Option ℕ → Option Head → List FragmentFields → FragmentFields → Option Refuse
 refusal session head taken e =
-    first_of (session_cause session e.session) (first_of (size_cause head (head_of e)) (clash_cause (clash taken e)))
+    first_of (session_cause session e.session) (first_of (size_cause head (head_of e)) (clash_cause (clash_with_taken taken e)))
 
 abbrev pub unless_refused : Option Refuse → Delivered → Delivered
 unless_refused None answer = answer
@@ -69,24 +69,24 @@ has_size None picture = false
 has_size (Some own) picture = picture.width == own.width && picture.height == own.height
 
 -- what says the greatest serial, the average gap, and the states held
-abbrev pub ack_of : {S : Type 0} → ℕ → Gap → List (Kept S) → Ack
-ack_of session gap kept = record { session = session; serial = gap.greatest; gap = gap.average; held = map label kept }
+abbrev pub ack_saying : {S : Type 0} → ℕ → Gap → List (StoredState S) → Ack
+ack_saying session gap kept = record { session = session; serial = gap.greatest; gap = gap.average; held = map number_and_name kept }
 
 module _ {S : Type 0} (codec : Coding S) where
   -- what is held after a fragment, before its frame is decoded
-  abbrev pub held_after : List (Call S) → Entry → List (Kept S)
-  held_after past e = in_order (from_floor (floor_of (with_part e (taken past))) (decoded codec past))
+  abbrev pub held_at_fragment : List (Call S) → FragmentFields → List (StoredState S)
+  held_at_fragment past e = in_order (not_below (floor_of (with_fragment e (taken past))) (decoded codec past))
 
   -- the acknowledgement after a fragment
-  abbrev pub ack_after : List (Call S) → Entry → ℕ → Ack
-  ack_after past e moment = ack_of e.session (gap_after (arrival_of e (max moment (now past)) ∷ arrivals past)) (held_after past e)
+  abbrev pub ack_after : List (Call S) → FragmentFields → ℕ → Ack
+  ack_after past e moment = ack_saying e.session (gap_after (arrival_of e (max moment (now past)) ∷ arrivals past)) (held_at_fragment past e)
 
   -- what a datagram is answered, but for want of memory
-  abbrev pub deliver_answer : List (Call S) → Result Came WireFault → ℕ → Delivered
+  abbrev pub deliver_answer : List (Call S) → Result Message WireFault → ℕ → Delivered
   deliver_answer past (Err fault) moment = Refused (Wire fault)
-  deliver_answer past (Ok (Report ack)) moment = Refused Kind
-  deliver_answer past (Ok (End number last)) moment = unless_refused (session_cause (session past) number) (Ended last)
-  deliver_answer past (Ok (Part e)) moment = unless_refused (refusal (session past) (head past) (taken past) e) (Taken (ack_after past e moment))
+  deliver_answer past (Ok (AckMessage ack)) moment = Refused Kind
+  deliver_answer past (Ok (ByeMessage number last)) moment = unless_refused (session_cause (session past) number) (Ended last)
+  deliver_answer past (Ok (FragmentMessage e)) moment = unless_refused (refusal (session past) (head past) (taken past) e) (Taken (ack_after past e moment))
 
   abbrev pub sound_answer : List (Call S) → ℕ → S → Picture → Done
   sound_answer past n state picture =
@@ -95,11 +95,11 @@ module _ {S : Type 0} (codec : Coding S) where
       else if nat_le n (last_shown (shown past)) then Older n (last_shown (shown past))
       else Show n picture
 
-  abbrev pub outcome_answer : List (Call S) → ℕ → Outcome S → Done
+  abbrev pub outcome_answer : List (Call S) → ℕ → DecodeResult S → Done
   outcome_answer past n NoMemory = Returned n
   outcome_answer past n (Faulty fault) = Unfit n (Fault fault)
   outcome_answer past n (Sound state picture) = sound_answer past n state picture
 
   -- what a decoding is answered
-  abbrev pub decoded_answer : List (Call S) → ℕ → Outcome S → Done
+  abbrev pub decoded_answer : List (Call S) → ℕ → DecodeResult S → Done
   decoded_answer past n outcome = if not (is_out past n) then Stranger else outcome_answer past n outcome

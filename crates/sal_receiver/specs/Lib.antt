@@ -5,8 +5,8 @@ pub mod Answers
 pub mod Promises
 pub mod Pending
 pub mod Machine
-pub mod Work
+pub mod Handed
 pub mod Shared
-pub mod Line
-pub mod Ran
+pub mod Known
+pub mod Outcome
 pub mod Judged

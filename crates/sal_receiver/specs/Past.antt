@@ -4,9 +4,9 @@ use Rattle.sal_y4m.specs.declared.head.Head.{Head}
 use Rattle.sal_base.specs.declared.picture.Picture.{Picture}
 use Rattle.sal_base.specs.declared.coding.Fault.{Fault}
 use Rattle.sal_wire.specs.declared.fault.WireFault.{WireFault}
-use Rattle.sal_wire.specs.Entry.{Entry}
-use Rattle.sal_wire.specs.Came.{Came, Part, End}
-use Rattle.sal_reasm.specs.Complete.{floor_of, with_part}
+use Rattle.sal_wire.specs.Fields.{FragmentFields}
+use Rattle.sal_wire.specs.Message.{Message, FragmentMessage, ByeMessage}
+use Rattle.sal_reasm.specs.Complete.{floor_of, with_fragment}
 use Rattle.sal_reasm.specs.Offer.{or_else}
 use Rattle.sal_budget.specs.Gap.{Arrival}
 use Rattle.sal_receiver.specs.declared.answers.Delivered.{Delivered}
@@ -15,31 +15,31 @@ use Rattle.sal_receiver.specs.declared.answers.Done.{Done}
 use Rattle.sal_receiver.specs.declared.answers.Done.TheVariants.{Show}
 
 -- what came of decoding a frame
-pub data Outcome (S : Type 0) : Type 0 where
-  Sound : (state : S) → (picture : Picture) → Outcome S
-  Faulty : (fault : Fault) → Outcome S
-  NoMemory : Outcome S
+pub data DecodeResult (S : Type 0) : Type 0 where
+  Sound : (state : S) → (picture : Picture) → DecodeResult S
+  Faulty : (fault : Fault) → DecodeResult S
+  NoMemory : DecodeResult S
 
 -- one call with its answer
 pub data Call (S : Type 0) : Type 0 where
-  Deliver : (came : Result Came WireFault) → (moment : ℕ) → (answer : Delivered) → Call S
+  Deliver : (came : Result Message WireFault) → (moment : ℕ) → (answer : Delivered) → Call S
   TakeReady : (answer : Option ℕ) → Call S
-  Decoding : (number : ℕ) → (outcome : Outcome S) → (answer : Done) → Call S
+  Decoding : (number : ℕ) → (outcome : DecodeResult S) → (answer : Done) → Call S
 
 -- the size and rate that a fragment says
-abbrev pub head_of : Entry → Head
+abbrev pub head_of : FragmentFields → Head
 head_of e = record { width = e.width; height = e.height; rate = e.rate }
 
-abbrev pub arrival_of : Entry → ℕ → Arrival
+abbrev pub arrival_of : FragmentFields → ℕ → Arrival
 arrival_of e moment = record { moment = moment; serial = e.serial; pause = e.pause }
 
-abbrev pub with_taken : Option Entry → List Entry → List Entry
+abbrev pub with_taken : Option FragmentFields → List FragmentFields → List FragmentFields
 with_taken None before = before
-with_taken (Some e) before = with_part e before
+with_taken (Some e) before = with_fragment e before
 
 module _ {S : Type 0} where
-  abbrev pub fragment_in : Call S → Option Entry
-  fragment_in (Deliver (Ok (Part e)) moment (Taken ack)) = Some e
+  abbrev pub fragment_in : Call S → Option FragmentFields
+  fragment_in (Deliver (Ok (FragmentMessage e)) moment (Taken ack)) = Some e
   fragment_in _ = None
 
   abbrev pub shown_in : Call S → Option (ℕ × Picture)
@@ -53,16 +53,16 @@ module _ {S : Type 0} where
   moment_in _ = 0
 
   abbrev pub session_in : Call S → Option ℕ
-  session_in (Deliver (Ok (Part e)) moment (Taken ack)) = Some e.session
-  session_in (Deliver (Ok (End number last)) moment (Ended m)) = Some number
+  session_in (Deliver (Ok (FragmentMessage e)) moment (Taken ack)) = Some e.session
+  session_in (Deliver (Ok (ByeMessage number last)) moment (Ended m)) = Some number
   session_in _ = None
 
   abbrev pub head_in : Call S → Option Head
-  head_in (Deliver (Ok (Part e)) moment (Taken ack)) = Some (head_of e)
+  head_in (Deliver (Ok (FragmentMessage e)) moment (Taken ack)) = Some (head_of e)
   head_in _ = None
 
   -- the fragments that were taken while their numbers stood at or above the floor, the newest first
-  abbrev pub taken : List (Call S) → List Entry
+  abbrev pub taken : List (Call S) → List FragmentFields
   taken [] = []
   taken (call ∷ past) = with_taken (fragment_in call) (taken past)
 
@@ -94,6 +94,6 @@ module _ {S : Type 0} where
   arrivals [] = []
   arrivals (call ∷ past) = with_arrival (fragment_in call) (now (call ∷ past)) (arrivals past)
     where
-      with_arrival : Option Entry → ℕ → List Arrival → List Arrival
+      with_arrival : Option FragmentFields → ℕ → List Arrival → List Arrival
       with_arrival None moment before = before
       with_arrival (Some e) moment before = arrival_of e moment ∷ before

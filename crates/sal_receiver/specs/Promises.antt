@@ -1,14 +1,14 @@
 -- What holds of every past of a receiver, whatever came in whatever order.
-use Rattle.std.specs.Prelude.{◌≡◌, ◌⊎◌, ◌==◌, ℕ, ◌≤◌, Bool, false, List, [], ◌∷◌, IsTrue, IsSome}
+use Rattle.std.specs.Prelude.{◌≡◌, ◌⊎◌, ℕ, ◌<◌, ◌≤◌, Bool, List, [], ◌∷◌, ◌++◌, IsTrue, IsSome}
 use Rattle.sal_base.specs.declared.picture.Picture.{Picture}
-use Rattle.std.specs.List.{list_any}
-use Rattle.sal_base.specs.Lists.{Has}
+use Rattle.sal_base.specs.Lists.{Has, Each}
 use Rattle.sal_codec.specs.Coding.{Coding}
 use Rattle.sal_receiver.specs.declared.answers.Delivered.{Delivered}
 use Rattle.sal_receiver.specs.declared.answers.Delivered.TheVariants.{Taken, Refused, Memory}
-use Rattle.sal_receiver.specs.declared.answers.Done.TheVariants.{Older, Unfit, Misnamed}
-use Rattle.sal_receiver.specs.Past.{Call, Deliver, TakeReady, Decoding, Outcome, shown}
-use Rattle.sal_receiver.specs.Ready.{ready, frame, waits, is_out, take_answer, decoding_of}
+use Rattle.sal_receiver.specs.declared.answers.Done.{Done}
+use Rattle.sal_receiver.specs.declared.answers.Done.TheVariants.{Older, Unfit, Misnamed, Show}
+use Rattle.sal_receiver.specs.Past.{Call, Deliver, TakeReady, Decoding, DecodeResult, shown}
+use Rattle.sal_receiver.specs.Ready.{ready_source, frame, is_ready, is_out, take_answer, decoding_of}
 use Rattle.sal_receiver.specs.Answers.{deliver_answer, decoded_answer}
 
 -- a fragment is taken
@@ -22,6 +22,20 @@ IsLeftAlone (Refused cause) = Unit {0}
 IsLeftAlone Memory = Unit {0}
 IsLeftAlone _ = ⊥
 
+-- a frame that was shown has a smaller number
+abbrev pub IsBelow : ℕ → ℕ × Picture → Type 0
+IsBelow n seen = seen.0 < n
+
+-- where an answer shows a frame, its number is above every number shown before
+abbrev pub ShowsAbove : List (ℕ × Picture) → Done → Type 0
+ShowsAbove before (Show n picture) = Each (IsBelow n) before
+ShowsAbove before _ = Unit {0}
+
+-- each number is above all that were shown before it; the newest stands first
+abbrev pub NumbersRise : List (ℕ × Picture) → Type 0
+NumbersRise [] = Unit {0}
+NumbersRise ((n, picture) ∷ before) = Each (IsBelow n) before × NumbersRise before
+
 module _ {S : Type 0} where
   abbrev pub WasShown : List (Call S) → ℕ → Type 0
   WasShown past n = (picture : Picture) × Has (shown past) (n, picture)
@@ -30,13 +44,15 @@ module _ {S : Type 0} where
   abbrev pub WasPassed : List (Call S) → ℕ → Type 0
   WasPassed past n = (m : ℕ) × (n ≤ m) × WasShown past m
 
-  -- a decoding of the number was answered that it is older
-  abbrev pub older_in : ℕ → Call S → Bool
-  older_in n (Decoding m outcome (Older k greater)) = m == n
-  older_in n _ = false
-
-  abbrev pub WasOlder : List (Call S) → ℕ → Type 0
-  WasOlder past n = IsTrue (list_any (older_in n) past) × WasPassed past n
+  -- a decoding of the number was answered that it is older, after a number at least as great was shown
+  pub record WasOlder (past : List (Call S)) (n : ℕ) : Type 0 where
+    pub later : List (Call S)
+    pub before : List (Call S)
+    pub outcome : DecodeResult S
+    pub number : ℕ
+    pub greater : ℕ
+    pub past_is : past ≡ later ++ Decoding n outcome (Older number greater) ∷ before
+    pub passed : WasPassed before n
 
   -- no decoding was refused
   abbrev pub IsFit : Call S → Type 0
@@ -50,14 +66,14 @@ module _ {S : Type 0} where
 
 module _ {S : Type 0} (codec : Coding S) where
   -- a decoding is that of the frame that was handed out, or there was no memory for it
-  abbrev pub IsOwnWork : List (Call S) → ℕ → Outcome S → Type 0
-  IsOwnWork past n outcome = (ran : Bool) × (outcome ≡ decoding_of codec (ready codec past n) (frame past n) ran)
+  abbrev pub IsItsDecoding : List (Call S) → ℕ → DecodeResult S → Type 0
+  IsItsDecoding past n outcome = (ran : Bool) × (outcome ≡ decoding_of codec (ready_source codec past n) (frame past n) ran)
 
   -- a call may be answered so after a past; memory is taken last, and a decoding is own work where its number is out
   abbrev pub Answers : Call S → List (Call S) → Type 0
   Answers (Deliver came moment answer) past = (answer ≡ deliver_answer codec past came moment) ⊎ ((answer ≡ Memory) × IsTaken (deliver_answer codec past came moment))
   Answers (TakeReady answer) past = answer ≡ take_answer codec past
-  Answers (Decoding n outcome answer) past = (answer ≡ decoded_answer codec past n outcome) × (IsTrue (is_out past n) → IsOwnWork past n outcome)
+  Answers (Decoding n outcome answer) past = (answer ≡ decoded_answer codec past n outcome) × (IsTrue (is_out past n) → IsItsDecoding past n outcome)
 
   -- each call was answered so after the calls before it
   abbrev pub IsLegal : List (Call S) → Type 0
@@ -66,10 +82,10 @@ module _ {S : Type 0} (codec : Coding S) where
 
   -- a ready frame waits to be handed out, or is out, or was shown, or was answered that a number at least as great was
   abbrev pub IsServed : List (Call S) → ℕ → Type 0
-  IsServed past n = IsTrue (waits codec past n) ⊎ (IsTrue (is_out past n) ⊎ (WasShown past n ⊎ WasOlder past n))
+  IsServed past n = IsTrue (is_ready codec past n) ⊎ (IsTrue (is_out past n) ⊎ (WasShown past n ⊎ WasOlder past n))
 
   abbrev pub ReadyIsServed : List (Call S) → Type 0
-  ReadyIsServed past = (n : ℕ) → IsSome (ready codec past n) → IsServed past n
+  ReadyIsServed past = (n : ℕ) → IsSome (ready_source codec past n) → IsServed past n
 
   -- a machine that stood for a past answered the call as it may after it, and stands for the past with the call
   abbrev pub Answered : {M : Type 0} → (M → List (Call S) → Type 0) → M → M → Call S → Type 0

@@ -4,18 +4,18 @@ use Rattle.std.specs.List.{list_any}
 use Rattle.sal_base.specs.declared.coding.Fault.{Fault}
 use Rattle.sal_base.specs.declared.coding.Decoded.{Decoded}
 use Rattle.sal_codec.specs.Coding.{Coding}
-use Rattle.sal_wire.specs.Entry.{Entry}
-use Rattle.sal_reasm.specs.Complete.{parts_of, is_complete, bytes_of}
+use Rattle.sal_wire.specs.Fields.{FragmentFields}
+use Rattle.sal_reasm.specs.Complete.{fragments_of, is_complete, frame_bytes}
 use Rattle.sal_reasm.specs.Offer.{or_else}
 use Rattle.sal_receiver.specs.declared.answers.Done.TheVariants.{Stranger, Unfit, Misnamed, Show, Older}
-use Rattle.sal_receiver.specs.Past.{Call, TakeReady, Decoding, Outcome, Sound, Faulty, NoMemory, taken}
+use Rattle.sal_receiver.specs.Past.{Call, TakeReady, Decoding, DecodeResult, Sound, Faulty, NoMemory, taken}
 use Rattle.sal_receiver.specs.Held.{held_under}
 
-abbrev pub source_in : List Entry → List ℕ
+abbrev pub source_in : List FragmentFields → List ℕ
 source_in [] = []
 source_in (e ∷ more) = e.source
 
-abbrev pub target_in : List Entry → List ℕ
+abbrev pub target_in : List FragmentFields → List ℕ
 target_in [] = []
 target_in (e ∷ more) = e.target
 
@@ -31,13 +31,13 @@ least (n ∷ more) = Some (smaller n (least more))
 module _ {S : Type 0} where
   -- the names of a frame's source and target, and its bytes
   abbrev pub source_name : List (Call S) → ℕ → List ℕ
-  source_name past n = source_in (parts_of n (taken past))
+  source_name past n = source_in (fragments_of n (taken past))
 
   abbrev pub target_name : List (Call S) → ℕ → List ℕ
-  target_name past n = target_in (parts_of n (taken past))
+  target_name past n = target_in (fragments_of n (taken past))
 
   abbrev pub frame : List (Call S) → ℕ → List ℕ
-  frame past n = bytes_of (taken past) n
+  frame past n = frame_bytes (taken past) n
 
   -- whether a frame was handed out and is not reported since
   abbrev pub is_out : List (Call S) → ℕ → Bool
@@ -67,24 +67,24 @@ module _ {S : Type 0} (codec : Coding S) where
   source_now past n = if is_complete (taken past) n then held_under codec past (source_name past n) else None
 
   -- the state from which the frame is decoded: the one that was held when it first was complete with one held
-  unfoldable pub ready : List (Call S) → ℕ → Option S
-  ready [] n = None
-  ready (call ∷ past) n = or_else (ready past n) (source_now (call ∷ past) n)
+  unfoldable pub ready_source : List (Call S) → ℕ → Option S
+  ready_source [] n = None
+  ready_source (call ∷ past) n = or_else (ready_source past n) (source_now (call ∷ past) n)
 
   -- whether a frame waits to be handed out
-  abbrev pub waits : List (Call S) → ℕ → Bool
-  waits past n = is_some (ready past n) && not (is_out past n) && not (is_decided past n)
+  abbrev pub is_ready : List (Call S) → ℕ → Bool
+  is_ready past n = is_some (ready_source past n) && not (is_out past n) && not (is_decided past n)
 
   -- the least frame that waits
   abbrev pub take_answer : List (Call S) → Option ℕ
-  take_answer past = least (filter (waits past) (map (λ e. e.number) (taken past)))
+  take_answer past = least (filter (is_ready past) (map (λ e. e.number) (taken past)))
 
-  abbrev pub outcome_of : Result (Decoded S) Fault → Outcome S
+  abbrev pub outcome_of : Result (Decoded S) Fault → DecodeResult S
   outcome_of (Ok d) = Sound d.state d.picture
   outcome_of (Err fault) = Faulty fault
 
   -- what comes of decoding a frame that was handed out
-  abbrev pub decoding_of : Option S → List ℕ → Bool → Outcome S
+  abbrev pub decoding_of : Option S → List ℕ → Bool → DecodeResult S
   decoding_of None bytes ran = NoMemory
   decoding_of (Some source) bytes false = NoMemory
   decoding_of (Some source) bytes true = outcome_of (codec.decode source bytes)

@@ -2,20 +2,20 @@
 #![tactic(auto)]
 
 mod answers;
+mod decoding;
+mod entering;
 mod laws;
-mod line;
-mod parts;
-mod pending;
+mod pending_frame;
+mod pending_frames;
 mod receiver;
-mod rows;
+mod session_state;
 mod shares;
-mod work;
 
 pub use answers::{Delivered, Done, Misfit, Refuse};
-pub use laws::serves_what_is_ready;
+pub use decoding::{DecodeOutcome, Decoding, Ready};
+pub use laws::{ready_frames_cross_threads, serves_what_is_ready, shows_rising_numbers};
 pub use receiver::Receiver;
 pub use shares::Shares;
-pub use work::{Decoding, Outcome, Ready};
 
 #[cfg(test)]
 mod tests;

@@ -2,17 +2,18 @@
 
 ghost use Rattle.std.specs.Prelude.{◌≡◌, ◌<◌, ◌-◌, length, IfOk};
 ghost use Rattle.std.specs.Arc.{arc_value};
+ghost use Rattle.sal_base.specs.declared.limits.TheConstants.{WINDOW};
 ghost use Rattle.sal_receiver.specs.Shared.{AreOf};
 
-use sal_base::Memory;
+use sal_base::{Memory, WINDOW};
 use std::alloc::Global;
 use std::marker::Model;
 use std::sync::Arc;
 
-/// How many shares there are besides the first one: one for each other number of the window.
-const OTHERS: usize = 15;
+// How many shares there are besides the first one: one for each other number of the window.
+const OTHERS: usize = WINDOW as usize - 1;
 
-/// Sixteen shares of one state: one to be kept, and fifteen for frames that wait for it.
+/// Shares of one state, one for each of the `WINDOW` numbers: one to be kept, and the others for frames that wait for it.
 #[derive(Drop)]
 pub struct Shares<S> {
     first: Arc<S>,
@@ -32,9 +33,9 @@ impl<S> Model for Shares<S> {
 }
 
 impl<S: Drop> Shares<S> {
-    /// Sixteen shares of a state.
+    /// A share of a state for each number of the window.
     pub(crate) fn new(alloc: Global, state: S) -> Result<Shares<S>, Memory>
-        ensures { IfOk result (λ s. s ≡ record { state = state; others = 15 }) }
+        ensures { IfOk result (λ s. s ≡ record { state = state; others = WINDOW - 1 }) }
     {
         let first = Arc::new(alloc, state)?;
         let others = copies(alloc, &first)?;
@@ -58,10 +59,10 @@ impl<S: Drop> Shares<S> {
     }
 }
 
-/// The shares besides the first one.
+// The shares besides the first one.
 #[tactic(auto, using(crate::proofs::ShareLemmas::are_push))]
 fn copies<S: Drop>(alloc: Global, first: &Arc<S>) -> Result<Vec<Arc<S>>, Memory>
-    ensures count { IfOk result (λ v. length v.items ≡ 15) }
+    ensures count { IfOk result (λ v. length v.items ≡ WINDOW - 1) }
     ensures same { IfOk result (λ v. AreOf (arc_value first.now) v.items) }
 {
     let mut others = Vec::new(alloc);

@@ -1,33 +1,33 @@
 -- A frame as datagrams.
 use Rattle.std.proofs.Common.{◌≡◌, ℕ, suc, ◌+◌, ◌-◌, ◌*◌, ◌/◌, ◌<◌, ◌≤◌, min, List, [], ◌∷◌, ◌++◌, length, map, take, drop, ap, sym, ◌∙◌, subst, arith}
 use Rattle.std.proofs.lemmas.List.{length-take, length-drop, map-append, take_rest, take_min}
-use Rattle.sal_wire.specs.Pieces.{below, count_of, piece}
-use Rattle.sal_wire.specs.Spelling.{IsFragment, text}
-use Rattle.sal_sender.specs.declared.cut.Cut.{Cut}
-use Rattle.sal_sender.specs.Cutting.{part_of, parts_of, IsCut}
+use Rattle.sal_wire.specs.Fragmentation.{below, fragment_count, fragment_data}
+use Rattle.sal_wire.specs.Layout.{IsFragment, fragment_bytes}
+use Rattle.sal_sender.specs.declared.outgoing_frame.OutgoingFrame.{OutgoingFrame}
+use Rattle.sal_sender.specs.Packetizing.{fragment_of, datagrams_of, IsOutgoing}
 
 -- the length of a piece
-piece_long : (bytes : List ℕ) (k : ℕ) → length (piece bytes k) ≡ min 1200 (length bytes - 1200 * k)
+piece_long : (bytes : List ℕ) (k : ℕ) → length (fragment_data bytes k) ≡ min 1200 (length bytes - 1200 * k)
 piece_long bytes k = length-take 1200 (drop (1200 * k) bytes) ∙ ap (min 1200) (length-drop (1200 * k) bytes)
 
 pub piece_within : (n k : ℕ) → k < (n + 1199) / 1200 → 1200 * k < n
 piece_within n k h = omega (arith, h)
 
-piece_whole : (bytes : List ℕ) (k : ℕ) → k + 1 < count_of bytes → length (piece bytes k) ≡ min 1200 (length bytes - 1200 * k) → length (piece bytes k) ≡ 1200
+piece_whole : (bytes : List ℕ) (k : ℕ) → k + 1 < fragment_count bytes → length (fragment_data bytes k) ≡ min 1200 (length bytes - 1200 * k) → length (fragment_data bytes k) ≡ 1200
 piece_whole bytes k h long = omega (arith, h, long)
 
 -- a part meets the rules of fragments
-meets : (cut : Cut) (k pause : ℕ) → IsCut cut → k < cut.choice.count → IsFragment (record (part_of cut k) { pause = pause })
-meets cut k pause c low =
-    let long = piece_long cut.bytes.now k in
-    let within : 1200 * k < length cut.bytes.now = piece_within (length cut.bytes.now) k (subst (λ n. k < n) c.count low) in
+meets : (outgoing : OutgoingFrame) (k pause : ℕ) → IsOutgoing outgoing → k < outgoing.choice.count → IsFragment (record (fragment_of outgoing k) { pause = pause })
+meets outgoing k pause c low =
+    let long = piece_long outgoing.bytes.now k in
+    let within : 1200 * k < length outgoing.bytes.now = piece_within (length outgoing.bytes.now) k (subst (λ n. k < n) c.count low) in
     record {
       serial = omega (arith, c.serial);
       number = c.number;
       number_below = c.number_below;
       floor = c.floor;
       floor_below = c.floor_below;
-      window = c.window;
+      window = omega (arith, c.window);
       source = c.source;
       target = c.target;
       count = omega (arith, low);
@@ -41,30 +41,30 @@ meets cut k pause c low =
       seconds = c.head.seconds;
       some = omega (arith, long, within);
       short = omega (arith, long);
-      whole = λ h. piece_whole cut.bytes.now k (subst (λ n. k + 1 < n) c.count h) long;
+      whole = λ h. piece_whole outgoing.bytes.now k (subst (λ n. k + 1 < n) c.count h) long;
     }
 
 -- also with the piece and the pause as they are computed
-pub part_meets : (cut : Cut) (k pause : ℕ) (own : List ℕ) → IsCut cut → k < cut.choice.count → own ≡ piece cut.bytes.now k → IsFragment (record (part_of cut k) { pause = pause; bytes = own })
-part_meets cut k pause own c low is = subst (λ d. IsFragment (record (part_of cut k) { pause = pause; bytes = d })) (sym is) (meets cut k pause c low)
+pub part_meets : (outgoing : OutgoingFrame) (k pause : ℕ) (own : List ℕ) → IsOutgoing outgoing → k < outgoing.choice.count → own ≡ fragment_data outgoing.bytes.now k → IsFragment (record (fragment_of outgoing k) { pause = pause; bytes = own })
+part_meets outgoing k pause own c low is = subst (λ d. IsFragment (record (fragment_of outgoing k) { pause = pause; bytes = d })) (sym is) (meets outgoing k pause c low)
 
 -- a piece by its bounds
-pub piece_cut : (bytes : List ℕ) (k n : ℕ) → n ≡ min 1200 (length (take (length bytes - 1200 * k) (drop (1200 * k) bytes))) → take n (take (length bytes - 1200 * k) (drop (1200 * k) bytes)) ≡ piece bytes k
+pub piece_cut : (bytes : List ℕ) (k n : ℕ) → n ≡ min 1200 (length (take (length bytes - 1200 * k) (drop (1200 * k) bytes))) → take n (take (length bytes - 1200 * k) (drop (1200 * k) bytes)) ≡ fragment_data bytes k
 piece_cut bytes k n h = rw (h, take_rest bytes (1200 * k)) (take_min 1200 (drop (1200 * k) bytes))
 
 -- one datagram more
-more_parts : (cut : Cut) (n : ℕ) → parts_of cut (suc n) ≡ parts_of cut n ++ text (part_of cut n) ∷ []
+more_parts : (outgoing : OutgoingFrame) (n : ℕ) → datagrams_of outgoing (suc n) ≡ datagrams_of outgoing n ++ fragment_bytes (fragment_of outgoing n) ∷ []
 unfolding below
-more_parts cut n = ap (map text) (map-append (part_of cut) (below n) (n ∷ [])) ∙ map-append text (map (part_of cut) (below n)) (part_of cut n ∷ [])
+more_parts outgoing n = ap (map fragment_bytes) (map-append (fragment_of outgoing) (below n) (n ∷ [])) ∙ map-append fragment_bytes (map (fragment_of outgoing) (below n)) (fragment_of outgoing n ∷ [])
 
-pub part_more : (cut : Cut) (n : ℕ) (b : List ℕ) (xs ys : List (List ℕ)) → ys ≡ xs ++ b ∷ [] → xs ≡ parts_of cut n → b ≡ text (part_of cut n) → ys ≡ parts_of cut (n + 1)
-part_more cut n b xs ys more h e =
+pub part_more : (outgoing : OutgoingFrame) (n : ℕ) (b : List ℕ) (xs ys : List (List ℕ)) → ys ≡ xs ++ b ∷ [] → xs ≡ datagrams_of outgoing n → b ≡ fragment_bytes (fragment_of outgoing n) → ys ≡ datagrams_of outgoing (n + 1)
+part_more outgoing n b xs ys more h e =
     let one : suc n ≡ n + 1 = omega arith in
-    rw (more, h, e) (sym (more_parts cut n) ∙ ap (parts_of cut) one)
+    rw (more, h, e) (sym (more_parts outgoing n) ∙ ap (datagrams_of outgoing) one)
 
-pub no_parts : (cut : Cut) (xs : List (List ℕ)) → xs ≡ [] → xs ≡ parts_of cut 0
+pub no_parts : (outgoing : OutgoingFrame) (xs : List (List ℕ)) → xs ≡ [] → xs ≡ datagrams_of outgoing 0
 unfolding below
-no_parts cut xs h = h
+no_parts outgoing xs h = h
 
-pub all_parts : (cut : Cut) (n count : ℕ) (xs : List (List ℕ)) → n ≤ count → count ≤ n → xs ≡ parts_of cut n → xs ≡ parts_of cut count
-all_parts cut n count xs low high h = let same : n ≡ count = omega (arith, low, high) in h ∙ ap (parts_of cut) same
+pub all_parts : (outgoing : OutgoingFrame) (n count : ℕ) (xs : List (List ℕ)) → n ≤ count → count ≤ n → xs ≡ datagrams_of outgoing n → xs ≡ datagrams_of outgoing count
+all_parts outgoing n count xs low high h = let same : n ≡ count = omega (arith, low, high) in h ∙ ap (datagrams_of outgoing) same

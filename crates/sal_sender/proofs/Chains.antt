@@ -7,7 +7,7 @@ use Rattle.sal_base.specs.Lists.{Has}
 use Rattle.sal_sender.specs.declared.choice.Choice.{Choice}
 use Rattle.sal_sender.specs.Chain.{sources_from}
 use Rattle.sal_sender.specs.Acks.{last_serial}
-use Rattle.sal_sender.specs.Links.{link_of, choices_from, safe_in, lost_in}
+use Rattle.sal_sender.specs.SentFrames.{sent_frame_of, choices_from, safe_in, lost_in}
 use Rattle.sal_sender.specs.Sound.{AreChained}
 use Rattle.sal_sender.proofs.Sound.{sources_low}
 use Rattle.sal_sender.proofs.Thread.{has_filter}
@@ -61,7 +61,7 @@ kept_chain f (c ∷ older) n chained = chain_step f c older n (eqb n c.number) (
 abbrev newest_of : List ℕ → List ℕ → ℕ
 newest_of acked numbers = unwrap_or (find (λ m. list_any (λ k. eqb k m) acked) numbers) 0
 
-safe_step : (acked : List ℕ) (c : Choice) (older : List Choice) (n : ℕ) (b d : Bool) → eqb n c.number ≡ b → list_any (λ k. eqb k c.number) acked ≡ d → newest_of acked (sources_from older c.source) ≡ safe_in (map (link_of acked) older) c.source → newest_of acked (sources_from older n) ≡ safe_in (map (link_of acked) older) n → newest_of acked (sources_from (c ∷ older) n) ≡ safe_in (map (link_of acked) (c ∷ older)) n
+safe_step : (acked : List ℕ) (c : Choice) (older : List Choice) (n : ℕ) (b d : Bool) → eqb n c.number ≡ b → list_any (λ k. eqb k c.number) acked ≡ d → newest_of acked (sources_from older c.source) ≡ safe_in (map (sent_frame_of acked) older) c.source → newest_of acked (sources_from older n) ≡ safe_in (map (sent_frame_of acked) older) n → newest_of acked (sources_from (c ∷ older) n) ≡ safe_in (map (sent_frame_of acked) (c ∷ older)) n
 unfolding safe_in
 safe_step acked c older n true true e d own rest =
     let p : list_any (λ k. eqb k n) acked ≡ true = ap (λ x. list_any (λ k. eqb k x) acked) (eqb-true _ _ e) ∙ d in
@@ -72,7 +72,7 @@ safe_step acked c older n true false e d own rest =
 safe_step acked c older n false d e f own rest = rw (from_later c older n e) (rest ∙ sym (if_false (eqb n c.number) _ _ e))
 
 -- the safe number by the links
-pub safe_links : (acked : List ℕ) (chosen : List Choice) (n : ℕ) → newest_of acked (sources_from chosen n) ≡ safe_in (map (link_of acked) chosen) n
+pub safe_links : (acked : List ℕ) (chosen : List Choice) (n : ℕ) → newest_of acked (sources_from chosen n) ≡ safe_in (map (sent_frame_of acked) chosen) n
 unfolding sources_from safe_in
 safe_links acked [] n = refl
 safe_links acked (c ∷ older) n = safe_step acked c older n (eqb n c.number) (list_any (λ k. eqb k c.number) acked) refl refl (safe_links acked older c.source) (safe_links acked older n)
@@ -106,7 +106,7 @@ lost_there f safe heard chosen n = list_any (is_over safe heard chosen) (filter 
 behind : (f safe heard : ℕ) (c : Choice) (older : List Choice) (n : ℕ) → AreChained (c ∷ older) → list_any (is_over safe heard (c ∷ older)) (filter (λ m. leb f m) (sources_from older n)) ≡ lost_there f safe heard older n
 behind f safe heard c older n chained = any_same (is_over safe heard (c ∷ older)) (is_over safe heard older) (filter (λ m. leb f m) (sources_from older n)) (λ x has. over_older safe heard c older f n x chained has)
 
-lost_step : (f safe heard : ℕ) (acked : List ℕ) (c : Choice) (older : List Choice) (n : ℕ) (b d : Bool) → eqb n c.number ≡ b → leb f c.number ≡ d → AreChained (c ∷ older) → lost_there f safe heard older c.source ≡ lost_in safe heard (map (link_of acked) (choices_from f older)) c.source → lost_there f safe heard older n ≡ lost_in safe heard (map (link_of acked) (choices_from f older)) n → lost_there f safe heard (c ∷ older) n ≡ lost_in safe heard (map (link_of acked) (choices_from f (c ∷ older))) n
+lost_step : (f safe heard : ℕ) (acked : List ℕ) (c : Choice) (older : List Choice) (n : ℕ) (b d : Bool) → eqb n c.number ≡ b → leb f c.number ≡ d → AreChained (c ∷ older) → lost_there f safe heard older c.source ≡ lost_in safe heard (map (sent_frame_of acked) (choices_from f older)) c.source → lost_there f safe heard older n ≡ lost_in safe heard (map (sent_frame_of acked) (choices_from f older)) n → lost_there f safe heard (c ∷ older) n ≡ lost_in safe heard (map (sent_frame_of acked) (choices_from f (c ∷ older))) n
 unfolding lost_in
 lost_step f safe heard acked c older n true true e d chained own rest =
     let p : leb f n ≡ true = ap (λ x. leb f x) (eqb-true _ _ e) ∙ d in
@@ -114,8 +114,8 @@ lost_step f safe heard acked c older n true true e d chained own rest =
 lost_step f safe heard acked c older n true false e d chained own rest =
     let p : leb f n ≡ false = ap (λ x. leb f x) (eqb-true _ _ e) ∙ d in
     let none : choices_from f older ≡ [] = none_from f older chained.1 (let low : c.number < f = leb-false _ _ d in omega (arith, chained.0.number)) in
-    let a : lost_in safe heard (map (link_of acked) (choices_from f older)) c.source ≡ false = ap (λ cs. lost_in safe heard (map (link_of acked) cs) c.source) none in
-    let b : lost_in safe heard (map (link_of acked) (choices_from f older)) n ≡ false = ap (λ cs. lost_in safe heard (map (link_of acked) cs) n) none in
+    let a : lost_in safe heard (map (sent_frame_of acked) (choices_from f older)) c.source ≡ false = ap (λ cs. lost_in safe heard (map (sent_frame_of acked) cs) c.source) none in
+    let b : lost_in safe heard (map (sent_frame_of acked) (choices_from f older)) n ≡ false = ap (λ cs. lost_in safe heard (map (sent_frame_of acked) cs) n) none in
     rw (from_here c older n e, d, p) (behind f safe heard c older c.source chained ∙ (own ∙ (a ∙ sym b)))
 lost_step f safe heard acked c older n false true e d chained own rest =
     rw (from_later c older n e, d) (behind f safe heard c older n chained ∙ (rest ∙ sym (if_false (eqb n c.number) _ _ e)))
@@ -123,7 +123,7 @@ lost_step f safe heard acked c older n false false e d chained own rest =
     rw (from_later c older n e, d) (behind f safe heard c older n chained ∙ rest)
 
 -- what was lost by the links
-pub lost_links : (f safe heard : ℕ) (acked : List ℕ) (chosen : List Choice) (n : ℕ) → AreChained chosen → lost_there f safe heard chosen n ≡ lost_in safe heard (map (link_of acked) (choices_from f chosen)) n
+pub lost_links : (f safe heard : ℕ) (acked : List ℕ) (chosen : List Choice) (n : ℕ) → AreChained chosen → lost_there f safe heard chosen n ≡ lost_in safe heard (map (sent_frame_of acked) (choices_from f chosen)) n
 unfolding sources_from lost_in
 lost_links f safe heard acked [] n chained = refl
 lost_links f safe heard acked (c ∷ older) n chained = lost_step f safe heard acked c older n (eqb n c.number) (leb f c.number) refl refl chained (lost_links f safe heard acked older c.source chained.1) (lost_links f safe heard acked older n chained.1)

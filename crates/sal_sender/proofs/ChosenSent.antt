@@ -5,18 +5,18 @@ use Rattle.std.specs.Arc.{arc_value}
 use Rattle.std.specs.Option.{option_map}
 use Rattle.std.specs.declared.sync.Arc.{Arc}
 use Rattle.sal_codec.specs.Coding.{Coding}
-use Rattle.sal_sender.specs.declared.seat.Seat.{Seat}
-use Rattle.sal_sender.specs.declared.seat.Open.{Open}
-use Rattle.sal_sender.specs.declared.taken.Taken.{Taken}
+use Rattle.sal_sender.specs.declared.open_picture.Candidate.{Candidate}
+use Rattle.sal_sender.specs.declared.open_picture.OpenPicture.{OpenPicture}
+use Rattle.sal_sender.specs.declared.prepared_frame.PreparedFrame.{PreparedFrame}
 use Rattle.sal_sender.specs.declared.answers.Chosen.{Chosen}
 use Rattle.sal_sender.specs.declared.answers.Chosen.TheVariants.{Sent, Memory}
 use Rattle.sal_sender.specs.Past.{Past, Choose, pictures, datagrams, opened, now, last_job, sent}
 use Rattle.sal_sender.specs.Acks.{lost}
 use Rattle.sal_sender.specs.OneThread.{Session}
 use Rattle.sal_sender.specs.Choosing.{may_send, lost_since, choose_opened, chosen}
-use Rattle.sal_sender.specs.Picking.{is_lost_in, needed_in, missing_from, found_in}
-use Rattle.sal_sender.specs.Sending.{lost_of, budget_in, after_choice, IsTaken}
-use Rattle.sal_sender.specs.Work.{Ran}
+use Rattle.sal_sender.specs.Selecting.{is_lost_in, needed_in, missing_from, found_in}
+use Rattle.sal_sender.specs.Sending.{lost_of, budget_in, after_choice, IsPrepared}
+use Rattle.sal_sender.specs.JobWork.{JobReport}
 use Rattle.sal_sender.specs.Machine.{Machine}
 use Rattle.sal_sender.specs.Stands.{summary, open_in, Stands}
 use Rattle.sal_sender.proofs.Choosings.{lost_here, budget_is}
@@ -32,18 +32,18 @@ unfolding chosen
 as_chosen codec session past moment answer e = e
 
 module _ {S Z : Type 0} (codec : Coding S) where
-  sent_stands : (m : Machine S) (past before : Past) (moment at : ℕ) (seat : Seat (Ran S)) (t : Taken (Arc S Z)) → Stands codec m past → opened past ≡ Some before → m.shelf.floor ≡ m.floor → at ≡ max m.tally.moment moment → IsTaken codec m seat at t → IsAnswer codec m.session past moment at t → Sent t.choice t.burst ≡ chosen codec m.session past moment → Stands codec (after_choice m t.choice t.name (arc_value t.state)) (Choose moment (Sent t.choice t.burst) ∷ past)
-  sent_stands m past before moment at seat t s there shelf when taken is says =
+  sent_stands : (m : Machine S) (past before : Past) (moment at : ℕ) (candidate : Candidate (JobReport S)) (t : PreparedFrame (Arc S Z)) → Stands codec m past → opened past ≡ Some before → m.store.floor ≡ m.floor → at ≡ max m.acks.moment moment → IsPrepared codec m candidate at t → IsAnswer codec m.session past moment at t → Sent t.choice t.burst ≡ chosen codec m.session past moment → Stands codec (after_choice m t.choice t.name (arc_value t.state)) (Choose moment (Sent t.choice t.burst) ∷ past)
+  sent_stands m past before moment at candidate t s there store when prepared is says =
       let chained = chained_of_legal codec m.session (Choose moment (Sent t.choice t.burst) ∷ past) (inl says, s.legal) in
-      let time : t.choice.moment ≡ max m.tally.moment moment = ap (λ c. c.moment) taken.choice ∙ when in
-      let k = keeps_sent codec m past before moment t.choice t.name (arc_value t.state) s there shelf taken.next chained (acked_low codec m.session past s.legal) time taken.own.name is.said.made in
+      let time : t.choice.moment ≡ max m.acks.moment moment = ap (λ c. c.moment) prepared.choice ∙ when in
+      let k = keeps_sent codec m past before moment t.choice t.name (arc_value t.state) s there store prepared.next chained (acked_low codec m.session past s.legal) time prepared.own.name is.said.made in
       let count : length (datagrams past ++ t.burst) ≡ sent past + t.choice.count = length-append (datagrams past) t.burst ∙ ap (λ n. sent past + n) is.said.count in
       let e = same_parts (sent_summary codec past moment t.choice t.choice.count) (pictures past ++ []) (max moment (now past)) (length (datagrams past ++ t.burst)) (0 + last_job past) (append-nil (pictures past)) refl count (omega arith) in
       record { legal = (inl says, s.legal); keeps = subst (λ x. Rattle.sal_sender.specs.Stands.Keeps codec (after_choice m t.choice t.name (arc_value t.state)) x) (sym e) k }
 
   -- a choice is sent
-  pub sent_chosen : (m new : Machine S) (past : Past) (moment at budget : ℕ) (o : Open (Ran S)) (tip_lost b : Bool) (seat : Seat (Ran S)) (t : Taken (Arc S Z)) (answer : Chosen) → Stands codec m past → m.shelf.floor ≡ m.floor → m.seats ≡ Some o → tip_lost ≡ lost_of m → b ≡ is_lost_in tip_lost o → None ≡ missing_from (needed_in b o) → at ≡ max m.tally.moment moment → budget ≡ budget_in m at → found_in codec b budget o ≡ Some seat → IsTaken codec m seat at t → answer ≡ Sent t.choice t.burst → new ≡ after_choice m t.choice t.name (arc_value t.state) → ((answer ≡ chosen codec m.session past moment) ⊎ (answer ≡ Memory)) × Stands codec new (Choose moment answer ∷ past)
-  sent_chosen m new past moment at budget o tip_lost b seat t answer s shelf seated l e h when may first taken answered after =
+  pub sent_chosen : (m new : Machine S) (past : Past) (moment at budget : ℕ) (o : OpenPicture (JobReport S)) (tip_lost b : Bool) (candidate : Candidate (JobReport S)) (t : PreparedFrame (Arc S Z)) (answer : Chosen) → Stands codec m past → m.store.floor ≡ m.floor → m.open_picture ≡ Some o → tip_lost ≡ lost_of m → b ≡ is_lost_in tip_lost o → None ≡ missing_from (needed_in b o) → at ≡ max m.acks.moment moment → budget ≡ budget_in m at → found_in codec b budget o ≡ Some candidate → IsPrepared codec m candidate at t → answer ≡ Sent t.choice t.burst → new ≡ after_choice m t.choice t.name (arc_value t.state) → ((answer ≡ chosen codec m.session past moment) ⊎ (answer ≡ Memory)) × Stands codec new (Choose moment answer ∷ past)
+  sent_chosen m new past moment at budget o tip_lost b candidate t answer s store seated l e h when may first prepared answered after =
       let chained = chained_of_legal codec m.session past s.legal in
       let known : tip_lost ≡ lost past = l ∙ lost_is codec m past s.keeps chained in
       let time : at ≡ max (now past) moment = when ∙ ap (λ n. max n moment) s.keeps.moment_is in
@@ -57,6 +57,6 @@ module _ {S Z : Type 0} (codec : Coding S) where
       go (Some before) q r known time least =
           let is : o ≡ open_in codec (summary past) before = cc in
           let d : b ≡ lost_since before past = e ∙ (ap (λ z. is_lost_in z o) known ∙ (ap (is_lost_in (lost past)) is ∙ lost_here codec (summary past) before past)) in
-          let says : IsAnswer codec m.session past moment at t = opened_says codec m past before moment at budget o b seat t s q is d h time least first taken in
+          let says : IsAnswer codec m.session past moment at t = opened_says codec m past before moment at budget o b candidate t s q is d h time least first prepared in
           let is_chosen : Sent t.choice t.burst ≡ chosen codec m.session past moment = as_chosen codec m.session past moment (Sent t.choice t.burst) says.answer in
-          (is_chosen, sent_stands m past before moment at seat t s q shelf when taken says is_chosen)
+          (is_chosen, sent_stands m past before moment at candidate t s q store when prepared says is_chosen)

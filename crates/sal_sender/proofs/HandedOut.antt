@@ -10,15 +10,15 @@ use Rattle.sal_codec.specs.Coding.{Coding}
 use Rattle.sal_sender.specs.declared.answers.Next.TheVariants.{Started, NotChosen, Full, Memory as NextMemory}
 use Rattle.sal_sender.specs.Past.{Past, NextPicture, TakeJob, Report, Choose, Hear, pictures, opened, started, last_job, tip}
 use Rattle.sal_sender.specs.OneThread.{Session}
-use Rattle.sal_sender.specs.Jobs.{Job, jobs, base, is_spared}
+use Rattle.sal_sender.specs.Jobs.{Job, jobs, base, needs_spare}
 use Rattle.sal_sender.specs.Acks.{safe}
-use Rattle.sal_sender.specs.Answers.{jobs_after, next_answer, take_answer, is_taken, is_out, waiting_jobs}
+use Rattle.sal_sender.specs.Answers.{jobs_after, next_answer, take_answer, is_taken, is_outstanding, waiting_jobs, IsLeastWaiting}
 use Rattle.sal_sender.specs.Promises.{IsLegal}
 use Rattle.sal_sender.specs.Machine.{Machine, flag}
-use Rattle.sal_sender.specs.declared.seat.Queue.{Queue}
-use Rattle.sal_sender.specs.Choosing.{first_of}
-use Rattle.sal_sender.specs.Seats.{listed, first_in}
-use Rattle.sal_sender.specs.Work.{Work}
+use Rattle.sal_sender.specs.declared.open_picture.JobQueue.{JobQueue}
+use Rattle.sal_sender.specs.Choosing.{first_in}
+use Rattle.sal_sender.specs.Candidates.{queued}
+use Rattle.sal_sender.specs.JobWork.{JobWork}
 use Rattle.sal_sender.specs.Stands.{summary, work_of, Keeps, Stands}
 use Rattle.sal_sender.proofs.Quiet.{parts_stay}
 
@@ -44,7 +44,7 @@ plan_rising true first c s f g p q r t = (omega (arith, p), (omega (arith, p, q)
 plan_rising false first c s f g p q r t = (omega (arith, p), (omega (arith, p, t), tt))
 
 pub jobs_rising : (before : Past) → IsRising (last_job before + 1) (jobs before)
-jobs_rising before = plan_rising (is_spared (base before) (safe before) (tip before)) (last_job before + 1) _ _ _ _ refl refl refl refl
+jobs_rising before = plan_rising (needs_spare (base before) (safe before) (tip before)) (last_job before + 1) _ _ _ _ refl refl refl refl
 
 after_rising : (o : Option Past) → IsRising 0 (jobs_after o)
 after_rising None = tt
@@ -78,13 +78,13 @@ waiting_taken past x rest h =
     let r : IsRising 0 (waiting_jobs past) = rising_filter (λ job. not (is_taken past job.id)) 0 (jobs_after (started past)) (after_rising (started past)) in
     filter_both x.id (λ j. is_taken past j.id) (jobs_after (started past)) ∙ (ap (filter (λ j. not (eqb x.id j.id))) h ∙ drop_first x rest (subst (λ js. IsRising 0 js) h r))
 
-mark_step : (b : Bool) (id j : ℕ) (value : Bool) (out : List Bool) → eqb id j ≡ b → id < length out → flag (set out id value) j ≡ cond b value (flag out j)
-mark_step true id j value out e h = let p : id ≡ j = eqb-true _ _ e in subst (λ k. flag (set out id value) k ≡ value) p (get_or-set_same out id value false h)
-mark_step false id j value out e h = get_or-set_other out id j value false (λ (p : j ≡ id). eqb-false _ _ e (sym p))
+mark_step : (b : Bool) (id j : ℕ) (value : Bool) (outstanding : List Bool) → eqb id j ≡ b → id < length outstanding → flag (set outstanding id value) j ≡ cond b value (flag outstanding j)
+mark_step true id j value outstanding e h = let p : id ≡ j = eqb-true _ _ e in subst (λ k. flag (set outstanding id value) k ≡ value) p (get_or-set_same outstanding id value false h)
+mark_step false id j value outstanding e h = get_or-set_other outstanding id j value false (λ (p : j ≡ id). eqb-false _ _ e (sym p))
 
 -- one flag is set and the others stay
-pub flag_marked : (id j : ℕ) (value : Bool) (out : List Bool) → id < length out → flag (set out id value) j ≡ cond (eqb id j) value (flag out j)
-flag_marked id j value out h = mark_step (eqb id j) id j value out refl h
+pub flag_marked : (id j : ℕ) (value : Bool) (outstanding : List Bool) → id < length outstanding → flag (set outstanding id value) j ≡ cond (eqb id j) value (flag outstanding j)
+flag_marked id j value outstanding h = mark_step (eqb id j) id j value outstanding refl h
 
 -- how many jobs a started picture has
 started_count : (a b : Bool) (k len n : ℕ) → Started n ≡ cond a (NotChosen k) (cond b Full (Started len)) → n ≡ len
@@ -97,7 +97,7 @@ plan_low true last c s f g p q r t n h = (omega (arith, p, h), (omega (arith, q,
 plan_low false last c s f g p q r t n h = (omega (arith, p, h), (omega (arith, t, h), tt))
 
 jobs_low : (before : Past) (n : ℕ) → n ≡ length (jobs before) → Each (λ j. j.id ≤ n + last_job before) (jobs before)
-jobs_low before n h = plan_low (is_spared (base before) (safe before) (tip before)) (last_job before) _ _ _ _ refl refl refl refl n h
+jobs_low before n h = plan_low (needs_spare (base before) (safe before) (tip before)) (last_job before) _ _ _ _ refl refl refl refl n h
 
 next_count : (past : Past) (n : ℕ) → (Started n ≡ next_answer past) ⊎ (Started n ≡ NextMemory) → n ≡ length (jobs past)
 next_count past n (inl h) = started_count (is_some (opened past)) (eqb (length (pictures past)) 1048575) (length (pictures past)) (length (jobs past)) n h
@@ -114,7 +114,7 @@ ids_low codec session (NextPicture picture moment (NotChosen n) ∷ past) legal 
 ids_low codec session (NextPicture picture moment Full ∷ past) legal = same_low _ _ _ (omega arith) (ids_low codec session past legal.1)
 ids_low codec session (NextPicture picture moment NextMemory ∷ past) legal = same_low _ _ _ (omega arith) (ids_low codec session past legal.1)
 ids_low codec session (TakeJob answer ∷ past) legal = same_low _ _ _ (omega arith) (ids_low codec session past legal.1)
-ids_low codec session (Report job ran answer ∷ past) legal = same_low _ _ _ (omega arith) (ids_low codec session past legal.1)
+ids_low codec session (Report job gave answer ∷ past) legal = same_low _ _ _ (omega arith) (ids_low codec session past legal.1)
 ids_low codec session (Choose moment answer ∷ past) legal = same_low _ _ _ (omega arith) (ids_low codec session past legal.1)
 ids_low codec session (Hear came moment answer ∷ past) legal = same_low _ _ _ (omega arith) (ids_low codec session past legal.1)
 
@@ -131,13 +131,32 @@ pub first_told : {X Y : Type 0} (f : X → Y) (js : List X) (xs : List Y) (w : Y
 first_told f [] xs w e h = absurd (let n : first_in xs ≡ None = ap first_in e in cc)
 first_told f (x ∷ rest) xs w e h = (x, (rest, refl, (let n : first_in xs ≡ Some (f x) = ap first_in e in cc), ap (drop 1) e))
 
+-- the first of a list that is told by another, or none
+pub first_of_map : {X Y : Type 0} (f : X → Y) (js : List X) → first_in (map f js) ≡ option_map f (first_in js)
+first_of_map f [] = refl
+first_of_map f (x ∷ rest) = refl
+
+pub rising_least : (least : ℕ) (xs : List Job) → IsRising least xs → Each (λ j. least ≤ j.id) xs
+rising_least least [] r = tt
+rising_least least (x ∷ xs) r = (r.0, rising_least least xs (rising_lower (suc x.id) least xs (omega (arith, r.0)) r.1))
+
+first_rising : (least : ℕ) (xs : List Job) (x : Job) → first_in xs ≡ Some x → IsRising least xs → Each (λ j. x.id ≤ j.id) xs
+first_rising least [] x e r = absurd (cc)
+first_rising least (y ∷ xs) x e r =
+    let own : y ≡ x = cc in
+    subst (λ (z : Job). Each (λ j. z.id ≤ j.id) (y ∷ xs)) own (omega arith, rising_least y.id xs (rising_lower (suc y.id) y.id xs (omega arith) r.1))
+
+-- the first that waits has the least id
+pub first_least : (past : Past) (x : Job) → first_in (waiting_jobs past) ≡ Some x → IsLeastWaiting past x.id
+first_least past x e = first_rising 0 (waiting_jobs past) x e (rising_filter (λ job. not (is_taken past job.id)) 0 (jobs_after (started past)) (after_rising (started past)))
+
 -- a machine with a job handed out
-abbrev pub with_taken : {S : Type 0} → Machine S → Queue (Work S) → List Bool → Machine S
-with_taken m queue out = record m { waiting = queue; out = out }
+abbrev pub with_taken : {S : Type 0} → Machine S → JobQueue (JobWork S) → List Bool → Machine S
+with_taken m queue outstanding = record m { waiting = queue; outstanding = outstanding }
 
 module _ {S : Type 0} (codec : Coding S) where
-  keeps_taken : (m : Machine S) (past : Past) (queue : Queue (Work S)) (out : List Bool) (x : Job) (rest : List Job) → Keeps codec m (summary past) → waiting_jobs past ≡ x ∷ rest → x.id ≤ last_job past → listed queue ≡ map (work_of codec past) rest → out ≡ set m.out x.id true → Keeps codec (with_taken m queue out) (record (summary past) { waiting = waiting_jobs (TakeJob (Some x.id) ∷ past); is_out = is_out (TakeJob (Some x.id) ∷ past) })
-  keeps_taken m past queue out x rest k waits low told marked = record {
+  keeps_taken : (m : Machine S) (past : Past) (queue : JobQueue (JobWork S)) (outstanding : List Bool) (x : Job) (rest : List Job) → Keeps codec m (summary past) → waiting_jobs past ≡ x ∷ rest → x.id ≤ last_job past → queued queue ≡ map (work_of codec past) rest → outstanding ≡ set m.outstanding x.id true → Keeps codec (with_taken m queue outstanding) (record (summary past) { waiting = waiting_jobs (TakeJob (Some x.id) ∷ past); is_outstanding = is_outstanding (TakeJob (Some x.id) ∷ past) })
+  keeps_taken m past queue outstanding x rest k waits low told marked = record {
     tip_is = k.tip_is;
     floor_is = k.floor_is;
     sent_is = k.sent_is;
@@ -148,12 +167,12 @@ module _ {S : Type 0} (codec : Coding S) where
     average_is = k.average_is;
     heard_at_is = k.heard_at_is;
     moment_is = k.moment_is;
-    links_are = k.links_are;
+    sent_frames_are = k.sent_frames_are;
     states_are = k.states_are;
     open_is = k.open_is;
     waiting_are = told ∙ ap (map (work_of codec past)) (sym (waiting_taken past x rest waits));
-    out_long = subst (λ (xs : List Bool). last_job past < length xs) (sym marked) (omega (arith, length-set m.out x.id true, k.out_long));
-    out_are = λ id. ap (λ xs. flag xs id) marked ∙ (flag_marked x.id id true m.out (omega (arith, k.out_long)) ∙ or_step (eqb x.id id) (flag m.out id) (is_out past id) (k.out_are id));
+    outstanding_long = subst (λ (xs : List Bool). last_job past < length xs) (sym marked) (omega (arith, length-set m.outstanding x.id true, k.outstanding_long));
+    outstanding_are = λ id. ap (λ xs. flag xs id) marked ∙ (flag_marked x.id id true m.outstanding (omega (arith, k.outstanding_long)) ∙ or_step (eqb x.id id) (flag m.outstanding id) (is_outstanding past id) (k.outstanding_are id));
   }
     where
       or_step : (b : Bool) (p q : Bool) → p ≡ q → cond b true p ≡ (b || q)
@@ -161,18 +180,33 @@ module _ {S : Type 0} (codec : Coding S) where
       or_step false p q e = e
 
   -- a sender that hands out the first job that waits
-  pub taken : (inside m : Machine S) (past : Past) (queue : Queue (Work S)) (out : List Bool) (w : Work S) (id : ℕ) → inside ≡ m → Stands codec m past → first_in (listed inside.waiting) ≡ Some w → listed queue ≡ drop 1 (listed inside.waiting) → id ≡ w.id → out ≡ set inside.out id true → (Some w.id ≡ take_answer past) × Stands codec (with_taken inside queue out) (TakeJob (Some w.id) ∷ past)
-  taken inside m past queue out w id view s first tail own marked =
+  pub taken : (inside m : Machine S) (past : Past) (queue : JobQueue (JobWork S)) (outstanding : List Bool) (w : JobWork S) (id : ℕ) → inside ≡ m → Stands codec m past → first_in (queued inside.waiting) ≡ Some w → queued queue ≡ drop 1 (queued inside.waiting) → id ≡ w.id → outstanding ≡ set inside.outstanding id true → (Some w.id ≡ take_answer past) × Stands codec (with_taken inside queue outstanding) (TakeJob (Some w.id) ∷ past)
+  taken inside m past queue outstanding w id view s first tail own marked =
       let s' : Stands codec inside past = subst (λ v. Stands codec v past) (sym view) s in
-      let told = first_told (work_of codec past) (waiting_jobs past) (listed inside.waiting) w s'.keeps.waiting_are first in
+      let told = first_told (work_of codec past) (waiting_jobs past) (queued inside.waiting) w s'.keeps.waiting_are first in
       let x : Job = told.0 in
       let rest : List Job = told.1.0 in
       let waits : waiting_jobs past ≡ x ∷ rest = told.1.1 in
-      let name : x.id ≡ w.id = ap (λ (v : Work S). v.id) told.1.2 in
+      let name : x.id ≡ w.id = ap (λ (v : JobWork S). v.id) told.1.2 in
       let low : Each (λ j. j.id ≤ last_job past) (x ∷ rest) = subst (λ js. Each (λ j. j.id ≤ last_job past) js) waits (each_filter (λ j. j.id ≤ last_job past) (λ job. not (is_taken past job.id)) (jobs_after (started past)) (ids_low codec inside.session past s'.legal)) in
-      let answer : Some x.id ≡ take_answer past = sym (ap (λ js. option_map (λ (j : Job). j.id) (first_of js)) waits) in
-      let marks : out ≡ set inside.out x.id true = marked ∙ ap (λ i. set inside.out i true) (own ∙ sym name) in
-      let k = keeps_taken inside past queue out x rest s'.keeps waits low.0 (tail ∙ told.1.3) marks in
-      let e = parts_stay (record (summary past) { waiting = waiting_jobs (TakeJob (Some x.id) ∷ past); is_out = is_out (TakeJob (Some x.id) ∷ past) }) past refl refl refl refl in
-      let both : (Some x.id ≡ take_answer past) × Stands codec (with_taken inside queue out) (TakeJob (Some x.id) ∷ past) = (answer, record { legal = (answer, s'.legal); keeps = subst (λ y. Keeps codec (with_taken inside queue out) y) (sym e) k }) in
-      subst (λ n. (Some n ≡ take_answer past) × Stands codec (with_taken inside queue out) (TakeJob (Some n) ∷ past)) name both
+      let answer : Some x.id ≡ take_answer past = sym (ap (λ js. option_map (λ (j : Job). j.id) (first_in js)) waits) in
+      let marks : outstanding ≡ set inside.outstanding x.id true = marked ∙ ap (λ i. set inside.outstanding i true) (own ∙ sym name) in
+      let k = keeps_taken inside past queue outstanding x rest s'.keeps waits low.0 (tail ∙ told.1.3) marks in
+      let e = parts_stay (record (summary past) { waiting = waiting_jobs (TakeJob (Some x.id) ∷ past); is_outstanding = is_outstanding (TakeJob (Some x.id) ∷ past) }) past refl refl refl refl in
+      let both : (Some x.id ≡ take_answer past) × Stands codec (with_taken inside queue outstanding) (TakeJob (Some x.id) ∷ past) = (answer, record { legal = (answer, s'.legal); keeps = subst (λ y. Keeps codec (with_taken inside queue outstanding) y) (sym e) k }) in
+      subst (λ n. (Some n ≡ take_answer past) × Stands codec (with_taken inside queue outstanding) (TakeJob (Some n) ∷ past)) name both
+
+  -- what waits first by what is kept is what waits first by the calls so far
+  pub waits_first : (inside m : Machine S) (past : Past) (o : Option (JobWork S)) → inside ≡ m → Stands codec m past → o ≡ first_in (queued inside.waiting) → o ≡ option_map (work_of codec past) (first_in (waiting_jobs past))
+  waits_first inside m past o view s first =
+      let s' : Stands codec inside past = subst (λ v. Stands codec v past) (sym view) s in
+      first ∙ (ap first_in s'.keeps.waiting_are ∙ first_of_map (work_of codec past) (waiting_jobs past))
+
+  least_of_first : (past : Past) (w : JobWork S) (o : Option Job) → first_in (waiting_jobs past) ≡ o → Some w ≡ option_map (work_of codec past) o → IsLeastWaiting past w.id
+  least_of_first past w None e h = absurd (cc)
+  least_of_first past w (Some x) e h =
+      let own : w.id ≡ x.id = (let p : w ≡ work_of codec past x = cc in ap (λ (v : JobWork S). v.id) p) in
+      subst (λ n. IsLeastWaiting past n) (sym own) (first_least past x e)
+
+  pub waits_least : (inside m : Machine S) (past : Past) (w : JobWork S) → inside ≡ m → Stands codec m past → Some w ≡ first_in (queued inside.waiting) → IsLeastWaiting past w.id
+  waits_least inside m past w view s first = least_of_first past w (first_in (waiting_jobs past)) refl (waits_first inside m past (Some w) view s first)

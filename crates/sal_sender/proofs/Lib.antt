@@ -23,3 +23,6 @@ pub mod ChosenKeeps
 pub mod ChosenLacks
 pub mod ChosenSays
 pub mod ChosenSent
+pub mod Promised
+pub mod Works
+pub mod FoundFits

@@ -3,7 +3,7 @@ use Rattle.std.proofs.Common.{◌≡◌, ◌≢◌, ℕ, ◌<◌, ◌≤◌, Boo
 use Rattle.std.proofs.lemmas.Bool.{ne_eqb, leb-true, leb-false}
 use Rattle.sal_base.specs.declared.picture.Picture.{Picture}
 use Rattle.sal_base.specs.Lists.{Has}
-use Rattle.sal_wire.specs.Entry.{Entry}
+use Rattle.sal_wire.specs.Fields.{FragmentFields}
 use Rattle.sal_codec.specs.Coding.{Coding}
 use Rattle.sal_sender.specs.declared.choice.Choice.{Choice}
 use Rattle.sal_sender.specs.Chain.{name_in, made_at, state, target_of, NamesDiffer}
@@ -43,11 +43,11 @@ module _ {S : Type 0} (codec : Coding S) where
       second (eqb 0 choice.number) _ _ (ne_eqb 0 choice.number other) ∙ zero_none shot older chained.1
 
   -- what was sent before is the beginning of what is sent
-  pub has_sent : (session : Session) (shot : List Picture) (choice : Choice) (older : List Choice) (e : Entry) → Has (one_thread codec session shot older) e → Has (one_thread codec session shot (choice ∷ older)) e
+  pub has_sent : (session : Session) (shot : List Picture) (choice : Choice) (older : List Choice) (e : FragmentFields) → Has (one_thread codec session shot older) e → Has (one_thread codec session shot (choice ∷ older)) e
   unfolding one_thread
   has_sent session shot choice older e h = has_first (one_thread codec session shot older) (burst_after codec session shot older choice (length (one_thread codec session shot older))) e h
     where
-      has_first : (xs ys : List Entry) (x : Entry) → Has xs x → Has (xs ++ ys) x
+      has_first : (xs ys : List FragmentFields) (x : FragmentFields) → Has xs x → Has (xs ++ ys) x
       has_first [] ys x h = absurd h
       has_first (y ∷ xs) ys x (inl q) = inl q
       has_first (y ∷ xs) ys x (inr q) = inr (has_first xs ys x q)

@@ -4,7 +4,7 @@ use Rattle.std.proofs.lemmas.List.{append-nil}
 use Rattle.std.specs.Prelude.{Result, Ok, Err}
 use Rattle.sal_base.specs.declared.picture.Picture.{Picture}
 use Rattle.sal_wire.specs.declared.fault.WireFault.{WireFault}
-use Rattle.sal_wire.specs.Came.{Came, Part, Report as AckCame, End}
+use Rattle.sal_wire.specs.Message.{Message, FragmentMessage, AckMessage, ByeMessage}
 use Rattle.sal_codec.specs.Coding.{Coding}
 use Rattle.sal_sender.specs.declared.answers.Next.TheVariants.{NotChosen, Full, Memory as NextMemory}
 use Rattle.sal_sender.specs.declared.answers.Reported.TheVariants.{Stranger}
@@ -42,8 +42,8 @@ quiet_next_memory past picture moment = quiet_parts past
 pub quiet_none : (past : Past) → summary (TakeJob None ∷ past) ≡ summary past
 quiet_none past = quiet_parts past
 
-pub quiet_stranger : (past : Past) (id : ℕ) (ran : _) → summary (Report id ran Stranger ∷ past) ≡ summary past
-quiet_stranger past id ran = quiet_parts past
+pub quiet_stranger : (past : Past) (id : ℕ) (gave : _) → summary (Report id gave Stranger ∷ past) ≡ summary past
+quiet_stranger past id gave = quiet_parts past
 
 pub quiet_no_picture : (past : Past) (moment : ℕ) → summary (Choose moment NoPicture ∷ past) ≡ summary past
 quiet_no_picture past moment = quiet_parts past
@@ -54,11 +54,11 @@ quiet_waiting past moment id = quiet_parts past
 pub quiet_memory : (past : Past) (moment : ℕ) → summary (Choose moment Memory ∷ past) ≡ summary past
 quiet_memory past moment = quiet_parts past
 
-pub quiet_ignored : (past : Past) (came : Result Came WireFault) (moment : ℕ) (why : Ignore) → summary (Hear came moment (Ignored why) ∷ past) ≡ summary past
+pub quiet_ignored : (past : Past) (came : Result Message WireFault) (moment : ℕ) (why : Ignore) → summary (Hear came moment (Ignored why) ∷ past) ≡ summary past
 quiet_ignored past (Err fault) moment why = quiet_parts past
-quiet_ignored past (Ok (Part e)) moment why = quiet_parts past
-quiet_ignored past (Ok (AckCame a)) moment why = quiet_parts past
-quiet_ignored past (Ok (End n l)) moment why = quiet_parts past
+quiet_ignored past (Ok (FragmentMessage e)) moment why = quiet_parts past
+quiet_ignored past (Ok (AckMessage a)) moment why = quiet_parts past
+quiet_ignored past (Ok (ByeMessage n l)) moment why = quiet_parts past
 
 -- a sender stands for one more call that left it as it was
 pub stands_quiet : {S : Type 0} (codec : Coding S) (m : Machine S) (past : Past) (call : Call) → Stands codec m past → Answers codec m.session call past → summary (call ∷ past) ≡ summary past → Answers codec m.session call past × Stands codec m (call ∷ past)

@@ -32,7 +32,7 @@ opened_choices (NextPicture picture moment (NotChosen n) ∷ past) before h = op
 opened_choices (NextPicture picture moment Full ∷ past) before h = opened_choices past before h
 opened_choices (NextPicture picture moment NextMemory ∷ past) before h = opened_choices past before h
 opened_choices (TakeJob answer ∷ past) before h = opened_choices past before h
-opened_choices (Report job ran answer ∷ past) before h = opened_choices past before h
+opened_choices (Report job gave answer ∷ past) before h = opened_choices past before h
 opened_choices (Hear came moment answer ∷ past) before h = opened_choices past before h
 opened_choices (Choose moment (Sent choice burst) ∷ past) before h = absurd (cc)
 opened_choices (Choose moment (Nothing budget sizes) ∷ past) before h = absurd (cc)
@@ -139,20 +139,20 @@ each_map : {X : Type 0} (P Q : X → Type 0) (f : (x : X) → P x → Q x) (xs :
 each_map P Q f [] e = tt
 each_map P Q f (x ∷ xs) e = (f x e.0, each_map P Q f xs e.1)
 
-plan_step : (b : Bool) (first onward sure newest q : ℕ) → (b ≡ true → onward ≡ newest)
-    → Each (λ (job : Job). (job.source ≡ onward) ⊎ ((job.source ≡ sure) × (onward ≡ newest)))
-    (cond b (record { id = first; role = Coarse; source = onward; q = min 127 (q + 4) } ∷ record { id = first + 1; role = Spare; source = sure; q = min 127 (q + 4) } ∷ record { id = first + 2; role = Fine; source = onward; q = q - 4 } ∷ [])
-    (record { id = first; role = Coarse; source = onward; q = min 127 (q + 4) } ∷ record { id = first + 1; role = Fine; source = onward; q = q - 4 } ∷ []))
-plan_step true first onward sure newest q h = (inl refl, (inr (refl, h refl), (inl refl, tt)))
-plan_step false first onward sure newest q h = (inl refl, (inl refl, tt))
+plan_step : (b : Bool) (first base sure newest q : ℕ) → (b ≡ true → base ≡ newest)
+    → Each (λ (job : Job). (job.source ≡ base) ⊎ ((job.source ≡ sure) × (base ≡ newest)))
+    (cond b (record { id = first; role = Coarse; source = base; q = min 127 (q + 4) } ∷ record { id = first + 1; role = Spare; source = sure; q = min 127 (q + 4) } ∷ record { id = first + 2; role = Fine; source = base; q = q - 4 } ∷ [])
+    (record { id = first; role = Coarse; source = base; q = min 127 (q + 4) } ∷ record { id = first + 1; role = Fine; source = base; q = q - 4 } ∷ []))
+plan_step true first base sure newest q h = (inl refl, (inr (refl, h refl), (inl refl, tt)))
+plan_step false first base sure newest q h = (inl refl, (inl refl, tt))
 
 first_and : (a b : Bool) → (a && b) ≡ true → a ≡ true
 first_and true b h = refl
 first_and false b h = absurd (cc)
 
 -- each job is encoded from the base, or from the safe state where the base is the tip
-pub jobs_planned : (first onward sure newest q : ℕ) → Each (λ (job : Job). (job.source ≡ onward) ⊎ ((job.source ≡ sure) × (onward ≡ newest))) (plan first onward sure newest q)
-jobs_planned first onward sure newest q = plan_step (eqb onward newest && not (eqb onward sure)) first onward sure newest q (λ (e : (eqb onward newest && not (eqb onward sure)) ≡ true). eqb-true onward newest (first_and _ _ e))
+pub jobs_planned : (first base sure newest q : ℕ) → Each (λ (job : Job). (job.source ≡ base) ⊎ ((job.source ≡ sure) × (base ≡ newest))) (plan first base sure newest q)
+jobs_planned first base sure newest q = plan_step (eqb base newest && not (eqb base sure)) first base sure newest q (λ (e : (eqb base newest && not (eqb base sure)) ≡ true). eqb-true base newest (first_and _ _ e))
 
 module _ {S : Type 0} (codec : Coding S) (session : Session) where
   planned : (before : Past) → Each (IsOfPlan before) (jobs before)
@@ -180,7 +180,7 @@ module _ {S : Type 0} (codec : Coding S) (session : Session) where
   chained_of_legal [] legal = tt
   chained_of_legal (NextPicture picture moment answer ∷ past) legal = chained_of_legal past legal.1
   chained_of_legal (TakeJob answer ∷ past) legal = chained_of_legal past legal.1
-  chained_of_legal (Report job ran answer ∷ past) legal = chained_of_legal past legal.1
+  chained_of_legal (Report job gave answer ∷ past) legal = chained_of_legal past legal.1
   chained_of_legal (Hear came moment answer ∷ past) legal = chained_of_legal past legal.1
   chained_of_legal (Choose moment NoPicture ∷ past) legal = chained_of_legal past legal.1
   chained_of_legal (Choose moment (Waiting id) ∷ past) legal = chained_of_legal past legal.1

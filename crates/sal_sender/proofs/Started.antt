@@ -10,7 +10,7 @@ use Rattle.sal_base.specs.Lists.{Each}
 use Rattle.sal_base.specs.declared.picture.Picture.{Picture}
 use Rattle.sal_codec.specs.Coding.{Coding}
 use Rattle.sal_sender.specs.declared.choice.JobRole.{JobRole}
-use Rattle.sal_sender.specs.declared.plan.Plan.{Plan}
+use Rattle.sal_sender.specs.declared.job_plan.JobPlan.{JobPlan}
 use Rattle.sal_sender.specs.declared.answers.Next.TheVariants.{Started, NotChosen, Full, Memory as NextMemory}
 use Rattle.sal_sender.specs.declared.answers.Reported.TheVariants.{Stranger, Late, Kept as KeptReport}
 use Rattle.sal_sender.specs.declared.answers.Chosen.TheVariants.{NoPicture, Waiting, Sent, Nothing, Memory}
@@ -18,20 +18,20 @@ use Rattle.sal_sender.specs.Past.{Past, NextPicture, TakeJob, Report, Choose, He
 use Rattle.sal_sender.specs.Chain.{name_in, state, picture_at, target_of}
 use Rattle.sal_sender.specs.OneThread.{Session}
 use Rattle.sal_sender.specs.Acks.{acknowledged, safe, lost, heard}
-use Rattle.sal_sender.specs.Jobs.{Job, kind_of, jobs, base, is_spared, coarse_job, spare_job, fine_job}
-use Rattle.sal_sender.specs.Choosing.{reported, first_of}
-use Rattle.sal_sender.specs.Answers.{jobs_after, starts, next_answer, is_taken, is_out, waiting_jobs}
+use Rattle.sal_sender.specs.Jobs.{Job, kind_of, jobs, base, needs_spare, coarse_job, spare_job, fine_job}
+use Rattle.sal_sender.specs.Choosing.{reported, first_in}
+use Rattle.sal_sender.specs.Answers.{jobs_after, starts, next_answer, is_taken, is_outstanding, waiting_jobs}
 use Rattle.sal_sender.specs.Promises.{IsLegal}
-use Rattle.sal_sender.specs.Links.{links_of, choices_from}
-use Rattle.sal_sender.specs.Planned.{safe_of, base_of, plan_of, seats_of, kind_from, state_from, work_from, queue_of, after_start}
-use Rattle.sal_sender.specs.Seats.{listed}
+use Rattle.sal_sender.specs.SentFrames.{sent_frames_of, choices_from}
+use Rattle.sal_sender.specs.Planned.{safe_of, base_of, plan_of, open_picture_of, kind_from, state_from, work_from, queue_of, after_start}
+use Rattle.sal_sender.specs.Candidates.{queued}
 use Rattle.sal_sender.specs.Sound.{IsFrom, AreChained}
 use Rattle.sal_sender.proofs.ReportedBack.{open_parts}
-use Rattle.sal_sender.specs.Work.{Work, Ran}
-use Rattle.sal_sender.specs.declared.seat.Open.{Open}
+use Rattle.sal_sender.specs.JobWork.{JobWork, JobReport}
+use Rattle.sal_sender.specs.declared.open_picture.OpenPicture.{OpenPicture}
 use Rattle.sal_base.specs.declared.coding.Kind.{Kind}
 use Rattle.sal_sender.specs.Machine.{Machine, flag}
-use Rattle.sal_sender.specs.Stands.{Summary, summary, work_in, seat_in, spare_in, open_in, kept_in, Keeps, Stands}
+use Rattle.sal_sender.specs.Stands.{Summary, summary, work_in, candidate_in, spare_in, open_in, kept_in, Keeps, Stands}
 use Rattle.sal_sender.proofs.Thread.{state_before, thread_of_legal}
 use Rattle.sal_sender.proofs.Older.{zero_none}
 use Rattle.sal_sender.proofs.Sound.{IsNear, base_from, safe_from, chained_of_legal, tip_is}
@@ -48,7 +48,7 @@ any_low (j ∷ js) last n e h = go (eqb j.id n) refl h (any_low js last n e.1)
     go true q r more = let p : j.id ≡ n = eqb-true _ _ q in let low : j.id ≤ last = e.0 in omega arith
     go false q r more = more r
 
-first_low : (js : List Job) (last n : ℕ) → Each (λ j. j.id ≤ last) js → Some n ≡ option_map (λ (j : Job). j.id) (first_of js) → n ≤ last
+first_low : (js : List Job) (last n : ℕ) → Each (λ j. j.id ≤ last) js → Some n ≡ option_map (λ (j : Job). j.id) (first_in js) → n ≤ last
 first_low [] last n e h = absurd (cc)
 first_low (j ∷ js) last n e h = let p : n ≡ j.id = cc in let low : j.id ≤ last = e.0 in omega arith
 
@@ -70,7 +70,7 @@ module _ {S : Type 0} (codec : Coding S) (session : Session) where
   opened_low (NextPicture picture moment Full ∷ past) legal = wider _ _ _ (omega arith) (opened_low past legal.1)
   opened_low (NextPicture picture moment NextMemory ∷ past) legal = wider _ _ _ (omega arith) (opened_low past legal.1)
   opened_low (TakeJob answer ∷ past) legal = wider _ _ _ (omega arith) (opened_low past legal.1)
-  opened_low (Report job ran answer ∷ past) legal = wider _ _ _ (omega arith) (opened_low past legal.1)
+  opened_low (Report job gave answer ∷ past) legal = wider _ _ _ (omega arith) (opened_low past legal.1)
   opened_low (Hear came moment answer ∷ past) legal = wider _ _ _ (omega arith) (opened_low past legal.1)
   opened_low (Choose moment (Sent choice burst) ∷ past) legal = tt
   opened_low (Choose moment (Nothing budget sizes) ∷ past) legal = tt
@@ -85,10 +85,10 @@ module _ {S : Type 0} (codec : Coding S) (session : Session) where
   reported_none (TakeJob answer ∷ past) id legal high = reported_none past id legal.1 (omega (arith, high))
   reported_none (Choose moment answer ∷ past) id legal high = reported_none past id legal.1 (omega (arith, high))
   reported_none (Hear came moment answer ∷ past) id legal high = reported_none past id legal.1 (omega (arith, high))
-  reported_none (Report job ran Stranger ∷ past) id legal high = reported_none past id legal.1 (omega (arith, high))
-  reported_none (Report job ran Late ∷ past) id legal high = reported_none past id legal.1 (omega (arith, high))
-  reported_none (Report job ran KeptReport ∷ past) id legal high =
-      let known : list_any (λ j. eqb j.id job) (jobs_after (opened past)) ≡ true = kept_answer (is_out past job) _ legal.0 in
+  reported_none (Report job gave Stranger ∷ past) id legal high = reported_none past id legal.1 (omega (arith, high))
+  reported_none (Report job gave Late ∷ past) id legal high = reported_none past id legal.1 (omega (arith, high))
+  reported_none (Report job gave KeptReport ∷ past) id legal high =
+      let known : list_any (λ j. eqb j.id job) (jobs_after (opened past)) ≡ true = kept_answer (is_outstanding past job) _ legal.0 in
       let low : job ≤ last_job past = any_low (jobs_after (opened past)) (last_job past) job (opened_low past legal.1) known in
       let other : eqb job id ≡ false = ne_eqb job id (λ (q : job ≡ id). omega (arith, high)) in
       rw other (reported_none past id legal.1 (omega (arith, high)))
@@ -104,7 +104,7 @@ module _ {S : Type 0} (codec : Coding S) (session : Session) where
       rw other (taken_none past id legal.1 (omega (arith, high)))
   taken_none (Choose moment answer ∷ past) id legal high = taken_none past id legal.1 (omega (arith, high))
   taken_none (Hear came moment answer ∷ past) id legal high = taken_none past id legal.1 (omega (arith, high))
-  taken_none (Report job ran answer ∷ past) id legal high = taken_none past id legal.1 (omega (arith, high))
+  taken_none (Report job gave answer ∷ past) id legal high = taken_none past id legal.1 (omega (arith, high))
 
   all_wait : (past : Past) (least : ℕ) (js : List Job) → IsLegal codec session past → last_job past < least → IsRising least js → filter (λ j. not (is_taken past j.id)) js ≡ js
   all_wait past least [] legal high r = refl
@@ -114,31 +114,31 @@ module _ {S : Type 0} (codec : Coding S) (session : Session) where
       rw free (ap (λ xs. j ∷ xs) (all_wait past (suc j.id) js legal (omega arith) r.1))
 
 -- the chain goes by the links
-safe_is_links : (past : Past) → AreChained (choices past) → safe past ≡ Rattle.sal_sender.specs.Links.safe_in (links_of (acknowledged past) (choices past)) (tip past)
+safe_is_links : (past : Past) → AreChained (choices past) → safe past ≡ Rattle.sal_sender.specs.SentFrames.safe_in (sent_frames_of (acknowledged past) (choices past)) (tip past)
 safe_is_links past chained =
     ap (λ ns. unwrap_or (find (λ n. list_any (λ m. eqb m n) (acknowledged past)) ns) 0) (kept_chain (floor past) (choices past) (tip past) chained)
     ∙ safe_links (acknowledged past) (choices_from (floor past) (choices past)) (tip past)
 
-lost_is_links : (past : Past) → AreChained (choices past) → lost past ≡ Rattle.sal_sender.specs.Links.lost_in (safe past) (heard past) (links_of (acknowledged past) (choices past)) (tip past)
+lost_is_links : (past : Past) → AreChained (choices past) → lost past ≡ Rattle.sal_sender.specs.SentFrames.lost_in (safe past) (heard past) (sent_frames_of (acknowledged past) (choices past)) (tip past)
 lost_is_links past chained = lost_links (floor past) (safe past) (heard past) (acknowledged past) (choices past) (tip past) chained
 
 module _ {S : Type 0} (codec : Coding S) where
   pub safe_is : (m : Machine S) (past : Past) → Keeps codec m (summary past) → AreChained (choices past) → safe_of m ≡ safe past
-  safe_is m past k chained = rw (k.links_are, k.tip_is) (sym (safe_is_links past chained))
+  safe_is m past k chained = rw (k.sent_frames_are, k.tip_is) (sym (safe_is_links past chained))
 
-  pub lost_is : (m : Machine S) (past : Past) → Keeps codec m (summary past) → AreChained (choices past) → Rattle.sal_sender.specs.Links.lost_in (safe_of m) m.tally.heard m.links m.tip ≡ lost past
-  lost_is m past k chained = rw (safe_is m past k chained, k.heard_is, k.links_are, k.tip_is) (sym (lost_is_links past chained))
+  pub lost_is : (m : Machine S) (past : Past) → Keeps codec m (summary past) → AreChained (choices past) → Rattle.sal_sender.specs.SentFrames.lost_in (safe_of m) m.acks.heard m.sent_frames m.tip ≡ lost past
+  lost_is m past k chained = rw (safe_is m past k chained, k.heard_is, k.sent_frames_are, k.tip_is) (sym (lost_is_links past chained))
 
   base_is : (m : Machine S) (past : Past) → Keeps codec m (summary past) → AreChained (choices past) → base_of m ≡ base past
   base_is m past k chained = rw (lost_is m past k chained, safe_is m past k chained, k.tip_is, k.floor_is) refl
 
   -- the plan by the past
-  abbrev past_plan : Past → Plan
+  abbrev past_plan : Past → JobPlan
   past_plan past = record {
     first = last_job past + 1;
-    onward = base past;
+    base = base past;
     safe = safe past;
-    spared = is_spared (base past) (safe past) (tip past);
+    has_spare = needs_spare (base past) (safe past) (tip past);
     from_tip = eqb (base past) (tip past);
     q = quantiser past;
   }
@@ -156,7 +156,7 @@ module _ {S : Type 0} (codec : Coding S) where
     waiting = jobs past;
   }
 
-  seat_empty : (session : Session) (past : Past) (picture : Picture) (moment : ℕ) (job : Job) → IsLegal codec session past → last_job past < job.id → record { id = job.id; role = job.role; source = job.source; q = job.q; report = None } ≡ seat_in codec (begun past picture moment) job
+  seat_empty : (session : Session) (past : Past) (picture : Picture) (moment : ℕ) (job : Job) → IsLegal codec session past → last_job past < job.id → record { id = job.id; role = job.role; source = job.source; q = job.q; report = None } ≡ candidate_in codec (begun past picture moment) job
   seat_empty session past picture moment job legal high = rw (reported_none codec session past job.id legal high) refl
 
   spare_empty : (b : Bool) (session : Session) (past : Past) (picture : Picture) (moment : ℕ) (job : Job) → IsLegal codec session past → last_job past < job.id → cond b (Some (record { id = job.id; role = job.role; source = job.source; q = job.q; report = None })) None ≡ spare_in codec b (begun past picture moment) job
@@ -167,12 +167,12 @@ module _ {S : Type 0} (codec : Coding S) where
   fine_high true last = omega arith
   fine_high false last = omega arith
 
-  seats_are : (session : Session) (past : Past) (picture : Picture) (moment : ℕ) → IsLegal codec session past → seats_of (past_plan past) ≡ open_in codec (begun past picture moment) past
+  seats_are : (session : Session) (past : Past) (picture : Picture) (moment : ℕ) → IsLegal codec session past → open_picture_of (past_plan past) ≡ open_in codec (begun past picture moment) past
   seats_are session past picture moment legal =
       open_parts _ _ _ _ _ _ _
       (seat_empty session past picture moment (coarse_job (last_job past + 1) (base past) (quantiser past)) legal (omega arith))
-      (spare_empty (is_spared (base past) (safe past) (tip past)) session past picture moment (spare_job ((last_job past + 1) + 1) (safe past) (quantiser past)) legal (omega arith))
-      (seat_empty session past picture moment (fine_job (cond (is_spared (base past) (safe past) (tip past)) ((last_job past + 1) + 2) ((last_job past + 1) + 1)) (base past) (quantiser past)) legal (fine_high (is_spared (base past) (safe past) (tip past)) (last_job past)))
+      (spare_empty (needs_spare (base past) (safe past) (tip past)) session past picture moment (spare_job ((last_job past + 1) + 1) (safe past) (quantiser past)) legal (omega arith))
+      (seat_empty session past picture moment (fine_job (cond (needs_spare (base past) (safe past) (tip past)) ((last_job past + 1) + 2) ((last_job past + 1) + 1)) (base past) (quantiser past)) legal (fine_high (needs_spare (base past) (safe past) (tip past)) (last_job past)))
 
 get_last : {X : Type 0} (xs : List X) (x : X) → slice_get (xs ++ x ∷ []) (length xs) ≡ Some x
 get_last [] x = refl
@@ -201,7 +201,7 @@ module _ {S : Type 0} (codec : Coding S) where
       not_zero (inl z) = absurd (eqb-false _ _ e z)
       not_zero (inr h) = h
 
-  work_parts : (id picture picture' : ℕ) (role : JobRole) (q : ℕ) (kind kind' : Kind) (source source' : S) (samples samples' : Picture) → picture ≡ picture' → kind ≡ kind' → source ≡ source' → samples ≡ samples' → ◌≡◌ {A = Work S} (record { id = id; picture = picture; role = role; q = q; kind = kind; source = source; samples = samples }) (record { id = id; picture = picture'; role = role; q = q; kind = kind'; source = source'; samples = samples' })
+  work_parts : (id picture picture' : ℕ) (role : JobRole) (q : ℕ) (kind kind' : Kind) (source source' : S) (samples samples' : Picture) → picture ≡ picture' → kind ≡ kind' → source ≡ source' → samples ≡ samples' → ◌≡◌ {A = JobWork S} (record { id = id; picture = picture; role = role; q = q; kind = kind; source = source; samples = samples }) (record { id = id; picture = picture'; role = role; q = q; kind = kind'; source = source'; samples = samples' })
   work_parts id picture picture' role q kind kind' source source' samples samples' a b c d = cc
 
   -- a job by what is kept
@@ -216,25 +216,25 @@ module _ {S : Type 0} (codec : Coding S) where
       (ap (state_from codec) (s.keeps.states_are job.source) ∙ found.1)
       (sym (picture_last (pictures past) picture))
 
-  listed_step : (b : Bool) (c p : Work S) (f : Work S) (x y : Job) (fine : ℕ → Job) (first : ℕ) (work : Job → Work S) → c ≡ work x → p ≡ work y → f ≡ work (fine (cond b (first + 2) (first + 1))) → listed (record { coarse = Some c; spare = cond b (Some p) None; fine = Some f }) ≡ map work (cond b (x ∷ y ∷ fine (first + 2) ∷ []) (x ∷ fine (first + 1) ∷ []))
+  listed_step : (b : Bool) (c p : JobWork S) (f : JobWork S) (x y : Job) (fine : ℕ → Job) (first : ℕ) (work : Job → JobWork S) → c ≡ work x → p ≡ work y → f ≡ work (fine (cond b (first + 2) (first + 1))) → queued (record { coarse = Some c; spare = cond b (Some p) None; fine = Some f }) ≡ map work (cond b (x ∷ y ∷ fine (first + 2) ∷ []) (x ∷ fine (first + 1) ∷ []))
   listed_step true c p f x y fine first work a d e = rw (a, d, e) refl
   listed_step false c p f x y fine first work a d e = rw (a, e) refl
 
-  queue_is : (m : Machine S) (past : Past) (picture : Picture) → Stands codec m past → listed (queue_of codec m picture (past_plan codec past)) ≡ map (work_in codec (pictures past ++ picture ∷ []) (choices past)) (jobs past)
+  queue_is : (m : Machine S) (past : Past) (picture : Picture) → Stands codec m past → queued (queue_of codec m picture (past_plan codec past)) ≡ map (work_in codec (pictures past ++ picture ∷ []) (choices past)) (jobs past)
   queue_is m past picture s =
       let chained = chained_of_legal codec m.session past s.legal in
-      let spared : Bool = is_spared (base past) (safe past) (tip past) in
+      let spared : Bool = needs_spare (base past) (safe past) (tip past) in
       let first : ℕ = last_job past + 1 in
       listed_step spared _ _ _ (coarse_job first (base past) (quantiser past)) (spare_job (first + 1) (safe past) (quantiser past)) (λ n. fine_job n (base past) (quantiser past)) first (work_in codec (pictures past ++ picture ∷ []) (choices past))
       (work_is m past picture (coarse_job first (base past) (quantiser past)) s (base_from past chained))
       (work_is m past picture (spare_job (first + 1) (safe past) (quantiser past)) s (safe_from past chained))
       (work_is m past picture (fine_job (cond spared (first + 2) (first + 1)) (base past) (quantiser past)) s (base_from past chained))
 
-flag_more : (b : Bool) (out : List Bool) (count j : ℕ) → ltb j (length out) ≡ b → flag (out ++ replicate count false) j ≡ flag out j
-flag_more true out count j e = get_or_append_left out (replicate count false) false j (ltb-true _ _ e)
-flag_more false out count j e =
-    let high : length out ≤ j = ltb-false _ _ e in
-    get_or-append_right out (replicate count false) j false high ∙ (none_set (ltb (j - length out) count) count (j - length out) refl ∙ sym (get_or-eq_default out false high))
+flag_more : (b : Bool) (outstanding : List Bool) (count j : ℕ) → ltb j (length outstanding) ≡ b → flag (outstanding ++ replicate count false) j ≡ flag outstanding j
+flag_more true outstanding count j e = get_or_append_left outstanding (replicate count false) false j (ltb-true _ _ e)
+flag_more false outstanding count j e =
+    let high : length outstanding ≤ j = ltb-false _ _ e in
+    get_or-append_right outstanding (replicate count false) j false high ∙ (none_set (ltb (j - length outstanding) count) count (j - length outstanding) refl ∙ sym (get_or-eq_default outstanding false high))
   where
     none_set : (d : Bool) (n i : ℕ) → ltb i n ≡ d → slice_index_or (replicate n false) i false ≡ false
     none_set true n i q = get_or-replicate n i false false (ltb-true _ _ q)
@@ -250,8 +250,8 @@ module _ {S : Type 0} (codec : Coding S) where
       let k = s.keeps in
       let chained = chained_of_legal codec m.session past s.legal in
       let plan : plan_of m ≡ past_plan codec past = plan_is codec m past k chained in
-      let count : Rattle.sal_sender.specs.Planned.count_of (plan_of m) ≡ length (jobs past) = ap (λ (p : Plan). cond p.spared 3 2) plan ∙ count_step (is_spared (base past) (safe past) (tip past)) _ _ _ _ in
-      let long : length (m.out ++ replicate (Rattle.sal_sender.specs.Planned.count_of (plan_of m)) false) ≡ length m.out + length (jobs past) = length-append m.out _ ∙ (ap (λ n. length m.out + n) (length-replicate (Rattle.sal_sender.specs.Planned.count_of (plan_of m)) false ∙ count)) in
+      let count : Rattle.sal_sender.specs.Planned.job_count (plan_of m) ≡ length (jobs past) = ap (λ (p : JobPlan). cond p.has_spare 3 2) plan ∙ count_step (needs_spare (base past) (safe past) (tip past)) _ _ _ _ in
+      let long : length (m.outstanding ++ replicate (Rattle.sal_sender.specs.Planned.job_count (plan_of m)) false) ≡ length m.outstanding + length (jobs past) = length-append m.outstanding _ ∙ (ap (λ n. length m.outstanding + n) (length-replicate (Rattle.sal_sender.specs.Planned.job_count (plan_of m)) false ∙ count)) in
       record {
         tip_is = k.tip_is;
         floor_is = k.floor_is;
@@ -263,15 +263,15 @@ module _ {S : Type 0} (codec : Coding S) where
         average_is = k.average_is;
         heard_at_is = k.heard_at_is;
         moment_is = omega (arith, k.moment_is);
-        links_are = k.links_are;
+        sent_frames_are = k.sent_frames_are;
         states_are = λ n. k.states_are n ∙ ap (λ x. cond (leb (floor past) n && leb n (tip past)) (Some (record { number = n; name = record { 0 = name_in codec x }; state = x })) None) (sym (state_before codec (pictures past) (picture ∷ []) (choices past) n (thread_of_legal codec m.session past s.legal).shot));
-        open_is = ap (λ p. Some (seats_of p)) plan ∙ ap (λ o. Some o) (seats_are codec m.session past picture moment s.legal);
-        waiting_are = ap (λ p. listed (queue_of codec m picture p)) plan ∙ queue_is codec m past picture s;
-        out_long = omega (arith, long, k.out_long);
-        out_are = λ j. flag_more (ltb j (length m.out)) m.out (Rattle.sal_sender.specs.Planned.count_of (plan_of m)) j refl ∙ k.out_are j;
+        open_is = ap (λ p. Some (open_picture_of p)) plan ∙ ap (λ o. Some o) (seats_are codec m.session past picture moment s.legal);
+        waiting_are = ap (λ p. queued (queue_of codec m picture p)) plan ∙ queue_is codec m past picture s;
+        outstanding_long = omega (arith, long, k.outstanding_long);
+        outstanding_are = λ j. flag_more (ltb j (length m.outstanding)) m.outstanding (Rattle.sal_sender.specs.Planned.job_count (plan_of m)) j refl ∙ k.outstanding_are j;
       }
 
-  pub none_open : (past : Past) (m : Machine S) → Keeps codec m (summary past) → m.seats ≡ None → opened past ≡ None
+  pub none_open : (past : Past) (m : Machine S) → Keeps codec m (summary past) → m.open_picture ≡ None → opened past ≡ None
   none_open past m k h = go (opened past) refl (sym k.open_is ∙ h)
     where
       go : (o : Option Past) → opened past ≡ o → option_map (open_in codec (summary past)) o ≡ None → opened past ≡ None
@@ -279,12 +279,12 @@ module _ {S : Type 0} (codec : Coding S) where
       go (Some before) e q = absurd (cc)
 
   -- a sender starts a picture
-  pub start_taken : (inside m : Machine S) (past : Past) (picture : Picture) (moment : ℕ) (count : ℕ) → inside ≡ m → Stands codec m past → inside.seats ≡ None → inside.pictures ≢ 1048575 → count ≡ Rattle.sal_sender.specs.Planned.count_of (plan_of inside) → (Started count ≡ next_answer past) × Stands codec (after_start codec inside picture moment) (NextPicture picture moment (Started count) ∷ past)
+  pub start_taken : (inside m : Machine S) (past : Past) (picture : Picture) (moment : ℕ) (count : ℕ) → inside ≡ m → Stands codec m past → inside.open_picture ≡ None → inside.pictures ≢ 1048575 → count ≡ Rattle.sal_sender.specs.Planned.job_count (plan_of inside) → (Started count ≡ next_answer past) × Stands codec (after_start codec inside picture moment) (NextPicture picture moment (Started count) ∷ past)
   start_taken inside m past picture moment count view s' free few own =
       let s : Stands codec inside past = subst (λ v. Stands codec v past) (sym view) s' in
       let chained = chained_of_legal codec inside.session past s.legal in
       let plan : plan_of inside ≡ past_plan codec past = plan_is codec inside past s.keeps chained in
-      let counted : count ≡ length (jobs past) = own ∙ (ap (λ (p : Plan). cond p.spared 3 2) plan ∙ count_step (is_spared (base past) (safe past) (tip past)) _ _ _ _) in
+      let counted : count ≡ length (jobs past) = own ∙ (ap (λ (p : JobPlan). cond p.has_spare 3 2) plan ∙ count_step (needs_spare (base past) (safe past) (tip past)) _ _ _ _) in
       let shut : opened past ≡ None = none_open past inside s.keeps free in
       let room : eqb (length (pictures past)) 1048575 ≡ false = ne_eqb (length (pictures past)) 1048575 (λ (q : length (pictures past) ≡ 1048575). few (s.keeps.pictures_is ∙ q)) in
       let says : Started (length (jobs past)) ≡ next_answer past = rw (shut, room) refl in
@@ -303,13 +303,13 @@ none_if b None e h = refl
 none_if b (Some x) e h = absurd (let q : true ≡ false = sym e ∙ h in cc)
 
 -- of a started picture, with what the sender was
-pub start_answered : {S : Type 0} (codec : Coding S) (m new : Machine S) (inside : Option (Open (Ran S))) (past : Past) (picture : Picture) (moment count : ℕ) (b : Bool) → Stands codec m past → inside ≡ m.seats → b ≡ is_some inside → b ≡ false → m.pictures < 1048575 → count ≡ Rattle.sal_sender.specs.Planned.count_of (plan_of m) → new ≡ after_start codec m picture moment → ((Started count ≡ next_answer past) ⊎ (Started count ≡ NextMemory)) × Stands codec new (NextPicture picture moment (Started count) ∷ past)
+pub start_answered : {S : Type 0} (codec : Coding S) (m new : Machine S) (inside : Option (OpenPicture (JobReport S))) (past : Past) (picture : Picture) (moment count : ℕ) (b : Bool) → Stands codec m past → inside ≡ m.open_picture → b ≡ is_some inside → b ≡ false → m.pictures < 1048575 → count ≡ Rattle.sal_sender.specs.Planned.job_count (plan_of m) → new ≡ after_start codec m picture moment → ((Started count ≡ next_answer past) ⊎ (Started count ≡ NextMemory)) × Stands codec new (NextPicture picture moment (Started count) ∷ past)
 start_answered codec m new inside past picture moment count b s view told shut few own after =
     let both = start_taken codec m m past picture moment count refl s (sym view ∙ none_if b inside told shut) (λ (q : m.pictures ≡ 1048575). omega arith) own in
     (inl both.0, subst (λ v. Stands codec v (NextPicture picture moment (Started count) ∷ past)) (sym after) both.1)
 
 -- of a picture that isn't started for want of memory
-pub may_start : {S : Type 0} (codec : Coding S) (m : Machine S) (inside : Option (Open (Ran S))) (past : Past) (b : Bool) → Stands codec m past → inside ≡ m.seats → b ≡ is_some inside → b ≡ false → m.pictures < 1048575 → starts (next_answer past) ≡ true
+pub may_start : {S : Type 0} (codec : Coding S) (m : Machine S) (inside : Option (OpenPicture (JobReport S))) (past : Past) (b : Bool) → Stands codec m past → inside ≡ m.open_picture → b ≡ is_some inside → b ≡ false → m.pictures < 1048575 → starts (next_answer past) ≡ true
 may_start codec m inside past b s view told shut few =
     let free : opened past ≡ None = none_open codec past m s.keeps (sym view ∙ none_if b inside told shut) in
     let count : m.pictures ≡ length (pictures past) = s.keeps.pictures_is in

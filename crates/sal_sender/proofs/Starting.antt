@@ -8,11 +8,11 @@ use Rattle.sal_base.specs.declared.picture.Picture.{Picture}
 use Rattle.sal_base.specs.declared.coding.Kind.TheVariants.{Inter}
 use Rattle.sal_y4m.specs.declared.head.Head.{Head}
 use Rattle.sal_codec.specs.Coding.{Coding, MayEncode, HasSides}
-use Rattle.sal_chain.specs.declared.kept.Kept.{Kept}
-use Rattle.sal_chain.specs.Held.{numbered}
+use Rattle.sal_chain.specs.declared.stored_state.StoredState.{StoredState}
+use Rattle.sal_chain.specs.Held.{with_number}
 use Rattle.sal_chain.specs.Shares.{name_and_state}
 use Rattle.sal_sender.specs.Chain.{name_in}
-use Rattle.sal_sender.specs.Machine.{Machine, IsOwn, IsWell}
+use Rattle.sal_sender.specs.Machine.{Machine, IsOwnState, IsWell}
 
 -- the numbers of the next jobs fit
 pub first_fits : {S : Type 0} (codec : Coding S) (m : Machine S) → IsWell codec m → m.last_job + 1 + 2 < 2 ^ 32
@@ -27,13 +27,13 @@ find_each {X} P p (y ∷ ys) x e h = go (p y) h (find_each P p ys x e.1)
     go false q more = more q
 
 -- what is found under a number is the session's own
-pub own_of : {S : Type 0} (codec : Coding S) (head : Head) (kept : List (Kept S)) (n : ℕ) (x : Name × S) → Each (IsOwn codec head) kept → Some x ≡ option_map name_and_state (numbered n kept) → codec.takes x.1 head.width head.height × (x.0.0 ≡ name_in codec x.1)
-own_of {S} codec head kept n x each h = go (numbered n kept) refl h
+pub own_of : {S : Type 0} (codec : Coding S) (head : Head) (kept : List (StoredState S)) (n : ℕ) (x : Name × S) → Each (IsOwnState codec head) kept → Some x ≡ option_map name_and_state (with_number n kept) → codec.takes x.1 head.width head.height × (x.0.0 ≡ name_in codec x.1)
+own_of {S} codec head kept n x each h = go (with_number n kept) refl h
   where
-    go : (o : Option (Kept S)) → numbered n kept ≡ o → Some x ≡ option_map name_and_state o → codec.takes x.1 head.width head.height × (x.0.0 ≡ name_in codec x.1)
+    go : (o : Option (StoredState S)) → with_number n kept ≡ o → Some x ≡ option_map name_and_state o → codec.takes x.1 head.width head.height × (x.0.0 ≡ name_in codec x.1)
     go None e q = absurd (cc)
     go (Some k) e q =
-        let own : IsOwn codec head k = find_each (IsOwn codec head) (λ (y : Kept S). eqb y.number n) kept k each e in
+        let own : IsOwnState codec head k = find_each (IsOwnState codec head) (λ (y : StoredState S). eqb y.number n) kept k each e in
         let same : x ≡ name_and_state k = cc in
         subst (λ (y : Name × S). codec.takes y.1 head.width head.height × (y.0.0 ≡ name_in codec y.1)) (sym same) (own.size, own.name)
 

@@ -2,24 +2,29 @@
 use Rattle.std.proofs.Common.{◌≡◌, ℕ, zero, suc, ◌-◌, ◌<◌, ◌≤◌, max, Bool, true, false, cond, List, [], ◌∷◌, ◌++◌, map, length, Option, Some, None, refl, ap, sym, ◌∙◌, subst, arith, eqb, append-nil, length-append, ◌⊎◌, inl, inr}
 use Rattle.std.proofs.lemmas.Bool.{leb-true}
 use Rattle.std.proofs.lemmas.List.{length-map, map-append}
-use Rattle.sal_wire.specs.Entry.{Entry}
+use Rattle.sal_wire.specs.Fields.{FragmentFields}
 use Rattle.std.specs.Prelude.{slice_get}
 use Rattle.std.specs.List.{find, filter, filter_map, cons_option}
 use Rattle.std.specs.Option.{option_map}
 use Rattle.sal_base.specs.Lists.{Has}
 use Rattle.sal_base.specs.declared.picture.Picture.{Picture}
-use Rattle.sal_codec.specs.Coding.{Coding}
-use Rattle.sal_wire.specs.Spelling.{text}
+use Rattle.sal_base.specs.declared.coding.Encoding.{Encoding}
+use Rattle.sal_base.specs.declared.coding.Encoding.TheVariants.{Frame as FrameOf, Oversize as OversizeOf}
+use Rattle.sal_codec.specs.Coding.{Coding, made_of}
+use Rattle.sal_wire.specs.Fragmentation.{below, fragment_count}
+use Rattle.sal_wire.specs.Layout.{fragment_bytes}
+use Rattle.sal_sender.specs.declared.outcome.Gave.{Gave}
+use Rattle.sal_sender.specs.declared.outcome.Gave.TheVariants.{Frame as GaveFrame, Oversize as GaveOversize, NoMemory as GaveNoMemory}
 use Rattle.sal_sender.specs.declared.choice.Choice.{Choice}
 use Rattle.sal_sender.specs.declared.choice.Size.TheVariants.{Datagrams, NoMemory}
 use Rattle.sal_sender.specs.declared.choice.Size.TheVariants.{Oversize as TooLarge}
 use Rattle.sal_sender.specs.declared.answers.Next.TheVariants.{Started, NotChosen, Full, Memory as NextMemory}
 use Rattle.sal_sender.specs.declared.answers.Chosen.TheVariants.{NoPicture, Waiting, Sent, Nothing, Memory}
 use Rattle.sal_sender.specs.Past.{Past, NextPicture, TakeJob, Report, Choose, Hear, choices, pictures, datagrams, picture_in, opened, now, sent}
-use Rattle.sal_sender.specs.Chain.{picture_at, made_from, target_of, made_at, state}
+use Rattle.sal_sender.specs.Chain.{picture_at, made_from, target_of, made_at, made, state, state_at}
 use Rattle.sal_sender.specs.OneThread.{Session, burst_after, one_thread}
-use Rattle.sal_sender.specs.Jobs.{Job, jobs}
-use Rattle.sal_sender.specs.Choosing.{Candidate, eligible, is_spare, is_fine, is_coarse, choice_of, count_in, fits, may_send, candidates, needed, lost_since, reported, choose_found, choose_reported, choose_needed, choose_opened, chosen}
+use Rattle.sal_sender.specs.Jobs.{Job, jobs, kind_of}
+use Rattle.sal_sender.specs.Choosing.{SizedJob, eligible, size_of, is_spare, is_fine, is_coarse, choice_of, datagram_count, candidate_fits, may_send, candidates, needed, lost_since, reported, choose_found, choose_reported, choose_needed, choose_opened, chosen}
 use Rattle.sal_sender.specs.Promises.{IsLegal, IsWhatOneThreadSends}
 
 -- each choice's picture is one of the first so many
@@ -126,16 +131,37 @@ eligible_has : (b : Bool) (all : List Job) (job : Job) → Has (eligible b all) 
 eligible_has true all job h = has_filter is_spare all job h
 eligible_has false all job h = elim (has_either (filter is_fine all) (filter is_coarse all) job h) [ inl a ↦ has_filter is_fine all job a | inr b ↦ has_filter is_coarse all job b ]
 
-among_jobs : {S : Type 0} (codec : Coding S) (before past : Past) (c : Candidate) → Has (candidates codec before past) c → Has (jobs before) c.0
+among_jobs : {S : Type 0} (codec : Coding S) (before past : Past) (c : SizedJob) → Has (candidates codec before past) c → Has (jobs before) c.0
 among_jobs codec before past c h =
     let from = has_source _ (eligible (lost_since before past) (jobs before)) c h in
-    let own : from.0 ≡ c.0 = (let m = mapped _ (reported past from.0.id) c from.2 in ap (λ (x : Candidate). x.0) m.1) in
+    let own : from.0 ≡ c.0 = (let m = mapped _ (reported past from.0.id) c from.2 in ap (λ (x : SizedJob). x.0) m.1) in
     subst (λ j. Has (jobs before) j) own (eligible_has (lost_since before past) (jobs before) from.0 from.1)
 
-fits_count : (budget : ℕ) (c : Candidate) → fits budget c ≡ true → count_in c.1 ≤ budget
+fits_count : (budget : ℕ) (c : SizedJob) → candidate_fits budget c ≡ true → datagram_count c.1 ≤ budget
 fits_count budget (job, Datagrams n) h = leb-true n budget h
 fits_count budget (job, TooLarge first) h = absurd (cc)
 fits_count budget (job, NoMemory) h = absurd (cc)
+
+-- a candidate that fits has as many datagrams as the frame that the codec makes
+fit_counted : {S : Type 0} (budget : ℕ) (s : S) (picture : Picture) (job : Job) (encoding : Encoding S) (gave : Gave) → candidate_fits budget (job, size_of encoding gave) ≡ true → datagram_count (size_of encoding gave) ≡ fragment_count (made_of s picture encoding).bytes
+fit_counted budget s picture job encoding GaveNoMemory h = absurd (cc)
+fit_counted budget s picture job (FrameOf bytes target recon) GaveFrame h = refl
+fit_counted budget s picture job (FrameOf bytes target recon) GaveOversize h = refl
+fit_counted budget s picture job (OversizeOf first) GaveFrame h = absurd (cc)
+fit_counted budget s picture job (OversizeOf first) GaveOversize h = absurd (cc)
+
+-- as many numbers as there are below one
+pub length_below : (n : ℕ) → length (below n) ≡ n
+unfolding below
+length_below zero = refl
+length_below (suc n) = length-append (below n) (n ∷ []) ∙ omega (arith, length_below n)
+
+candidate_counted : {S : Type 0} (codec : Coding S) (before past : Past) (budget : ℕ) (c : SizedJob) → Has (candidates codec before past) c → candidate_fits budget c ≡ true → datagram_count c.1 ≡ fragment_count (made_from codec (state_at codec past c.0.source) (picture_at (pictures past) (length (pictures past))) c.0.q (kind_of c.0.source)).bytes
+candidate_counted codec before past budget c has h =
+    let from = has_source _ (eligible (lost_since before past) (jobs before)) c has in
+    let gave = mapped _ (reported past from.0.id) c from.2 in
+    subst (λ (x : SizedJob). datagram_count x.1 ≡ fragment_count (made_from codec (state_at codec past x.0.source) (picture_at (pictures past) (length (pictures past))) x.0.q (kind_of x.0.source)).bytes) gave.1
+    (fit_counted budget _ _ from.0 _ gave.0 (subst (λ (x : SizedJob). candidate_fits budget x ≡ true) (sym gave.1) h))
 
 -- an open picture was started
 pub opened_started : (past before : Past) → opened past ≡ Some before → 1 ≤ length (pictures past)
@@ -145,7 +171,7 @@ opened_started (NextPicture picture moment (NotChosen n) ∷ past) before h = om
 opened_started (NextPicture picture moment Full ∷ past) before h = omega (arith, opened_started past before h, length-append {A = Picture} (pictures past) [])
 opened_started (NextPicture picture moment NextMemory ∷ past) before h = omega (arith, opened_started past before h, length-append {A = Picture} (pictures past) [])
 opened_started (TakeJob answer ∷ past) before h = omega (arith, opened_started past before h, length-append {A = Picture} (pictures past) [])
-opened_started (Report job ran answer ∷ past) before h = omega (arith, opened_started past before h, length-append {A = Picture} (pictures past) [])
+opened_started (Report job gave answer ∷ past) before h = omega (arith, opened_started past before h, length-append {A = Picture} (pictures past) [])
 opened_started (Hear came moment answer ∷ past) before h = omega (arith, opened_started past before h, length-append {A = Picture} (pictures past) [])
 opened_started (Choose moment (Sent choice burst) ∷ past) before h = absurd (cc)
 opened_started (Choose moment (Nothing budget sizes) ∷ past) before h = absurd (cc)
@@ -164,29 +190,33 @@ module _ {S : Type 0} (codec : Coding S) (session : Session) where
     pub count : ℕ
     pub is : choice ≡ choice_of past moment job count
     pub fits : count ≤ may_send session past moment
-    pub datagrams : burst ≡ map text (burst_after codec session (pictures past) (choices past) choice (sent past))
+    pub datagrams : burst ≡ map fragment_bytes (burst_after codec session (pictures past) (choices past) choice (sent past))
+    pub counted : count ≡ fragment_count (made codec (pictures past) (choices past) choice).bytes
 
-  found_is : (before past : Past) (moment : ℕ) (all : List Candidate) (choice : Choice) (burst : List (List ℕ)) (o : Option Candidate) → opened past ≡ Some before → all ≡ candidates codec before past → find (fits (may_send session past moment)) all ≡ o → Sent choice burst ≡ choose_found codec session past moment (may_send session past moment) all o → IsChosen past moment choice burst
+  found_is : (before past : Past) (moment : ℕ) (all : List SizedJob) (choice : Choice) (burst : List (List ℕ)) (o : Option SizedJob) → opened past ≡ Some before → all ≡ candidates codec before past → find (candidate_fits (may_send session past moment)) all ≡ o → Sent choice burst ≡ choose_found codec session past moment (may_send session past moment) all o → IsChosen past moment choice burst
   found_is before past moment all choice burst None s l e h = absurd (cc)
   found_is before past moment all choice burst (Some found) s l e h =
-      let is : choice ≡ choice_of past moment found.0 (count_in found.1) = cc in
-      let told : burst ≡ map text (burst_after codec session (pictures past) (choices past) (choice_of past moment found.0 (count_in found.1)) (sent past)) = cc in
+      let is : choice ≡ choice_of past moment found.0 (datagram_count found.1) = cc in
+      let told : burst ≡ map fragment_bytes (burst_after codec session (pictures past) (choices past) (choice_of past moment found.0 (datagram_count found.1)) (sent past)) = cc in
+      let has : Has (candidates codec before past) found = find_has (candidate_fits (may_send session past moment)) (candidates codec before past) found (subst (λ xs. find (candidate_fits (may_send session past moment)) xs ≡ Some found) l e) in
+      let fit : candidate_fits (may_send session past moment) found ≡ true = find_true (candidate_fits (may_send session past moment)) all found e in
       record {
         started = opened_started past before s;
         before = before;
         opened_there = s;
         job = found.0;
-        among = among_jobs codec before past found (find_has (fits (may_send session past moment)) (candidates codec before past) found (subst (λ xs. find (fits (may_send session past moment)) xs ≡ Some found) l e));
-        count = count_in found.1;
+        among = among_jobs codec before past found has;
+        count = datagram_count found.1;
         is = is;
-        fits = fits_count (may_send session past moment) found (find_true (fits (may_send session past moment)) all found e);
-        datagrams = told ∙ ap (λ c. map text (burst_after codec session (pictures past) (choices past) c (sent past))) (sym is);
+        fits = fits_count (may_send session past moment) found fit;
+        datagrams = told ∙ ap (λ c. map fragment_bytes (burst_after codec session (pictures past) (choices past) c (sent past))) (sym is);
+        counted = candidate_counted codec before past (may_send session past moment) found has fit ∙ ap (λ c. fragment_count (made codec (pictures past) (choices past) c).bytes) (sym is);
       }
 
-  reported_is : (before past : Past) (moment : ℕ) (job : Job) (choice : Choice) (burst : List (List ℕ)) (o : Option Bool) → opened past ≡ Some before → Sent choice burst ≡ choose_reported codec session before past moment job o → IsChosen past moment choice burst
+  reported_is : (before past : Past) (moment : ℕ) (job : Job) (choice : Choice) (burst : List (List ℕ)) (o : Option Gave) → opened past ≡ Some before → Sent choice burst ≡ choose_reported codec session before past moment job o → IsChosen past moment choice burst
   reported_is before past moment job choice burst None s h = absurd (cc)
-  reported_is before past moment job choice burst (Some ran) s h =
-      found_is before past moment (candidates codec before past) choice burst (find (fits (may_send session past moment)) (candidates codec before past)) s refl refl h
+  reported_is before past moment job choice burst (Some gave) s h =
+      found_is before past moment (candidates codec before past) choice burst (find (candidate_fits (may_send session past moment)) (candidates codec before past)) s refl refl h
 
   needed_is : (before past : Past) (moment : ℕ) (choice : Choice) (burst : List (List ℕ)) (o : Option Job) → opened past ≡ Some before → Sent choice burst ≡ choose_needed codec session before past moment o → IsChosen past moment choice burst
   needed_is before past moment choice burst None s h = absurd (cc)
@@ -206,30 +236,30 @@ module _ {S : Type 0} (codec : Coding S) (session : Session) where
     pub shot : ArePicturesOf (length (pictures past)) (choices past)
     pub thread : IsWhatOneThreadSends codec session past
 
-  longer : (past : Past) (more : List Picture) → length (pictures past) ≤ length (pictures past ++ more)
-  longer past more = omega (arith, length-append (pictures past) more)
+  with_choice : (past : Past) (more : List Picture) → length (pictures past) ≤ length (pictures past ++ more)
+  with_choice past more = omega (arith, length-append (pictures past) more)
 
   -- a call that starts a picture at most
-  quiet : (past : Past) (more : List Picture) → IsThreaded past → datagrams past ++ [] ≡ map text (one_thread codec session (pictures past ++ more) (choices past))
-  quiet past more t = append-nil (datagrams past) ∙ (t.thread ∙ sym (ap (λ es. map text es) (thread_before codec session (pictures past) more (choices past) t.shot)))
+  quiet : (past : Past) (more : List Picture) → IsThreaded past → datagrams past ++ [] ≡ map fragment_bytes (one_thread codec session (pictures past ++ more) (choices past))
+  quiet past more t = append-nil (datagrams past) ∙ (t.thread ∙ sym (ap (λ es. map fragment_bytes es) (thread_before codec session (pictures past) more (choices past) t.shot)))
 
   wider : (past : Past) (more : List Picture) → IsThreaded past → ArePicturesOf (length (pictures past ++ more)) (choices past)
-  wider past more t = more_pictures (length (pictures past)) (length (pictures past ++ more)) (choices past) (longer past more) t.shot
+  wider past more t = more_pictures (length (pictures past)) (length (pictures past ++ more)) (choices past) (with_choice past more) t.shot
 
   chose : (past : Past) (moment at : ℕ) (choice : Choice) (burst : List (List ℕ)) → IsChosen past at choice burst → IsThreaded past → IsThreaded (Choose moment (Sent choice burst) ∷ past)
   unfolding one_thread
   chose past moment at choice burst is t =
       let own : choice.picture ≡ length (pictures past) = ap (λ c. c.picture) is.is in
       let shot : ArePicturesOf (length (pictures past)) (choice ∷ choices past) = (omega (arith, own, is.started), omega (arith, own), t.shot) in
-      let before : List Entry = one_thread codec session (pictures past) (choices past) in
-      let count : sent past ≡ length before = ap (λ xs. length xs) t.thread ∙ length-map before text in
-      let told : burst ≡ map text (burst_after codec session (pictures past) (choices past) choice (length before)) =
-      is.datagrams ∙ ap (λ n. map text (burst_after codec session (pictures past) (choices past) choice n)) count in
-      let joined : datagrams past ++ burst ≡ map text before ++ map text (burst_after codec session (pictures past) (choices past) choice (length before)) = cc in
+      let before : List FragmentFields = one_thread codec session (pictures past) (choices past) in
+      let count : sent past ≡ length before = ap (λ xs. length xs) t.thread ∙ length-map before fragment_bytes in
+      let told : burst ≡ map fragment_bytes (burst_after codec session (pictures past) (choices past) choice (length before)) =
+      is.datagrams ∙ ap (λ n. map fragment_bytes (burst_after codec session (pictures past) (choices past) choice n)) count in
+      let joined : datagrams past ++ burst ≡ map fragment_bytes before ++ map fragment_bytes (burst_after codec session (pictures past) (choices past) choice (length before)) = cc in
       record {
-        shot = more_pictures (length (pictures past)) (length (pictures past ++ [])) (choice ∷ choices past) (longer past []) shot;
-        thread = joined ∙ (sym (map-append text before (burst_after codec session (pictures past) (choices past) choice (length before)))
-            ∙ sym (ap (λ es. map text es) (thread_before codec session (pictures past) [] (choice ∷ choices past) shot)));
+        shot = more_pictures (length (pictures past)) (length (pictures past ++ [])) (choice ∷ choices past) (with_choice past []) shot;
+        thread = joined ∙ (sym (map-append fragment_bytes before (burst_after codec session (pictures past) (choices past) choice (length before)))
+            ∙ sym (ap (λ es. map fragment_bytes es) (thread_before codec session (pictures past) [] (choice ∷ choices past) shot)));
       }
 
   pub thread_of_legal : (past : Past) → IsLegal codec session past → IsThreaded past
@@ -237,7 +267,7 @@ module _ {S : Type 0} (codec : Coding S) (session : Session) where
   thread_of_legal [] legal = record { shot = tt; thread = refl }
   thread_of_legal (NextPicture picture moment answer ∷ past) legal = let t = thread_of_legal past legal.1 in record { shot = wider past (picture_in (NextPicture picture moment answer)) t; thread = quiet past (picture_in (NextPicture picture moment answer)) t }
   thread_of_legal (TakeJob answer ∷ past) legal = let t = thread_of_legal past legal.1 in record { shot = wider past [] t; thread = quiet past [] t }
-  thread_of_legal (Report job ran answer ∷ past) legal = let t = thread_of_legal past legal.1 in record { shot = wider past [] t; thread = quiet past [] t }
+  thread_of_legal (Report job gave answer ∷ past) legal = let t = thread_of_legal past legal.1 in record { shot = wider past [] t; thread = quiet past [] t }
   thread_of_legal (Hear came moment answer ∷ past) legal = let t = thread_of_legal past legal.1 in record { shot = wider past [] t; thread = quiet past [] t }
   thread_of_legal (Choose moment NoPicture ∷ past) legal = let t = thread_of_legal past legal.1 in record { shot = wider past [] t; thread = quiet past [] t }
   thread_of_legal (Choose moment (Waiting id) ∷ past) legal = let t = thread_of_legal past legal.1 in record { shot = wider past [] t; thread = quiet past [] t }

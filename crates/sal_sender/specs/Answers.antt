@@ -1,14 +1,16 @@
 -- What the sender's other calls are answered.
-use Rattle.std.specs.Prelude.{ℕ, Bool, true, false, ◌&&◌, ◌||◌, not, List, [], ◌∷◌, length, filter, filter_map, Option, Some, None, is_some, Result, Ok, Err, ◌==◌, nat_lt, nat_le, if◌then◌else◌}
+use Rattle.std.specs.Prelude.{ℕ, ◌≤◌, Bool, true, false, ◌&&◌, ◌||◌, not, List, [], ◌∷◌, length, filter, filter_map, Option, Some, None, is_some, Result, Ok, Err, ◌==◌, nat_lt, nat_le, if◌then◌else◌}
 use Rattle.std.specs.List.{list_any}
 use Rattle.std.specs.Option.{option_map}
+use Rattle.sal_base.specs.declared.limits.TheConstants.{MAX_FRAMES}
 use Rattle.sal_base.specs.declared.name.Name.{Name}
 use Rattle.sal_base.specs.Names.{same}
+use Rattle.sal_base.specs.Lists.{Each}
 use Rattle.sal_codec.specs.Coding.{Coding}
 use Rattle.sal_wire.specs.declared.fault.WireFault.{WireFault}
 use Rattle.sal_wire.specs.declared.datagram.Ack.{Ack}
-use Rattle.sal_wire.specs.Came.{Came, Part, End}
-use Rattle.sal_wire.specs.Came.{Report as AckCame}
+use Rattle.sal_wire.specs.Message.{Message, FragmentMessage, ByeMessage}
+use Rattle.sal_wire.specs.Message.{AckMessage}
 use Rattle.sal_sender.specs.declared.answers.Next.{Next}
 use Rattle.sal_sender.specs.declared.answers.Next.TheVariants.{Started, NotChosen, Full, Memory}
 use Rattle.sal_sender.specs.declared.answers.Reported.{Reported}
@@ -24,7 +26,7 @@ use Rattle.sal_sender.specs.Chain.{name_in, state_at}
 use Rattle.sal_sender.specs.OneThread.{Session}
 use Rattle.sal_sender.specs.Acks.{acknowledged, heard, named_from}
 use Rattle.sal_sender.specs.Jobs.{Job, jobs}
-use Rattle.sal_sender.specs.Choosing.{first_of}
+use Rattle.sal_sender.specs.Choosing.{first_in}
 
 -- the jobs of the picture that was started after this past, if there is one
 abbrev pub jobs_after : Option Past → List Job
@@ -42,62 +44,70 @@ starts Memory = false
 abbrev pub next_answer : Past → Next
 next_answer past =
     if is_some (opened past) then NotChosen (length (pictures past))
-    else if length (pictures past) == 1048575 then Full
+    else if length (pictures past) == MAX_FRAMES then Full
     else Started (length (jobs past))
 
+-- whether this call handed out the job of this id
 abbrev pub hands_out : ℕ → Call → Bool
 hands_out id (TakeJob (Some job)) = job == id
 hands_out id _ = false
 
 -- whether a job was handed out
 abbrev pub is_taken : Past → ℕ → Bool
-is_taken past id = list_any (hands_out id) past
+is_taken [] id = false
+is_taken (call ∷ past) id = hands_out id call || is_taken past id
 
 -- the jobs of the newest picture that were not handed out
 abbrev pub waiting_jobs : Past → List Job
 waiting_jobs past = filter (λ job. not (is_taken past job.id)) (jobs_after (started past))
 
+-- the id of the first waiting job, which is the least that isn't handed out
 abbrev pub take_answer : Past → Option ℕ
-take_answer past = option_map (λ job. job.id) (first_of (waiting_jobs past))
+take_answer past = option_map (λ job. job.id) (first_in (waiting_jobs past))
+
+-- no job that waits has a lower id
+abbrev pub IsLeastWaiting : Past → ℕ → Type 0
+IsLeastWaiting past id = Each (λ job. id ≤ job.id) (waiting_jobs past)
 
 -- whether a job was handed out and is not reported since
-abbrev pub is_out : Past → ℕ → Bool
-is_out [] id = false
-is_out (call ∷ past) id = after call (is_out past id)
+abbrev pub is_outstanding : Past → ℕ → Bool
+is_outstanding [] id = false
+is_outstanding (call ∷ past) id = after call (is_outstanding past id)
   where
     after : Call → Bool → Bool
-    after (TakeJob (Some job)) out = job == id || out
-    after (Report job ran Late) out = not (job == id) && out
-    after (Report job ran Kept) out = not (job == id) && out
-    after _ out = out
+    after (TakeJob (Some job)) outstanding = job == id || outstanding
+    after (Report job gave Late) outstanding = not (job == id) && outstanding
+    after (Report job gave Kept) outstanding = not (job == id) && outstanding
+    after _ outstanding = outstanding
 
 -- what a report is answered
 abbrev pub report_answer : Past → ℕ → Reported
 report_answer past id =
-    if not (is_out past id) then Stranger
+    if not (is_outstanding past id) then Stranger
     else if list_any (λ job. job.id == id) (jobs_after (opened past)) then Kept
     else Late
 
--- a number that was not sent, or whose name is another one
-abbrev pub wrong : {S : Type 0} → Coding S → Past → ℕ × Name → Option Ignore
-wrong codec past h =
+-- a frame number that wasn't sent, or a name that isn't that of its state
+abbrev pub unsent_or_misnamed : {S : Type 0} → Coding S → Past → ℕ × Name → Option Ignore
+unsent_or_misnamed codec past h =
     if nat_lt (tip past) h.0 then Some (Unsent h.0)
     else if same (name_in codec (state_at codec past h.0)) h.1.0 then None
     else Some (OtherName h.0 (record { 0 = name_in codec (state_at codec past h.0) }) h.1)
 
--- the first number at or above the floor that is wrong
+-- the first fault among the frame numbers at or above the floor
 abbrev pub first_wrong : {S : Type 0} → Coding S → Past → Ack → Option Ignore
-first_wrong codec past ack = first_of (filter_map (wrong codec past) (filter (λ held. nat_le (floor past) held.0) ack.held))
+first_wrong codec past ack = first_in (filter_map (unsent_or_misnamed codec past) (filter (λ held. nat_le (floor past) held.0) ack.held))
 
--- the numbers that an acknowledgement names for the first time
+-- the frame numbers from the floor on that an acknowledgement names for the first time
 abbrev pub newly_named : Past → Ack → List ℕ
 newly_named past ack = filter (λ n. not (list_any (λ m. m == n) (acknowledged past))) (named_from (floor past) ack)
 
--- numbers that are named for the first time, or a serial that is above all before; else it is old
+-- frame numbers that are named for the first time, or a serial that is above all before; else it is old
 abbrev pub fresh : ℕ → ℕ → List ℕ → HeardAck
 fresh heard serial [] = if nat_lt heard serial then Heard [] else Ignored Old
 fresh heard serial (n ∷ more) = Heard (n ∷ more)
 
+-- the answer, but for a fault
 abbrev pub unless_wrong : Option Ignore → HeardAck → HeardAck
 unless_wrong None answer = answer
 unless_wrong (Some why) answer = Ignored why
@@ -110,11 +120,11 @@ ack_answer codec session past ack =
     else unless_wrong (first_wrong codec past ack) (fresh (heard past) ack.serial (newly_named past ack))
 
 -- what bytes that came are answered
-abbrev pub heard_answer : {S : Type 0} → Coding S → Session → Past → Result Came WireFault → HeardAck
+abbrev pub heard_answer : {S : Type 0} → Coding S → Session → Past → Result Message WireFault → HeardAck
 heard_answer codec session past (Err fault) = Ignored (Wire fault)
-heard_answer codec session past (Ok (Part e)) = Ignored Kind
-heard_answer codec session past (Ok (End number last)) = Ignored Kind
-heard_answer codec session past (Ok (AckCame ack)) = ack_answer codec session past ack
+heard_answer codec session past (Ok (FragmentMessage e)) = Ignored Kind
+heard_answer codec session past (Ok (ByeMessage number last)) = Ignored Kind
+heard_answer codec session past (Ok (AckMessage ack)) = ack_answer codec session past ack
 
 -- whether a choice closes the picture
 abbrev pub closes : Chosen → Bool

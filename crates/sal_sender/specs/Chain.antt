@@ -7,7 +7,7 @@ use Rattle.sal_codec.specs.Coding.{Coding, Made, made_of, name_of}
 use Rattle.sal_sender.specs.declared.choice.Choice.{Choice}
 use Rattle.sal_sender.specs.Past.{Past, choices, pictures, tip, floor}
 
--- picture number n, of pictures that are numbered from 1
+-- the picture of picture number n, of pictures that are numbered from 1
 abbrev pub picture_at : List Picture → ℕ → Picture
 picture_at shot n = or_none (slice_get shot (n - 1))
   where
@@ -29,7 +29,7 @@ module _ {S : Type 0} (codec : Coding S) where
   target_of None = codec.initial
   target_of (Some made) = made.target
 
-  -- what choice n made, encoded from the state of its source, which is an older choice or the initial one
+  -- what the frame of number n made, encoded from the state of its source, which is that of an older frame or the initial one
   unfoldable pub made_at : List Picture → List Choice → ℕ → Option (Made S)
   made_at shot [] n = None
   made_at shot (choice ∷ older) n =
@@ -38,7 +38,7 @@ module _ {S : Type 0} (codec : Coding S) where
         | false ↦ made_at shot older n
       ]
 
-  -- the state of number n
+  -- the state of frame number n, the initial one where there is no such frame
   abbrev pub state : List Picture → List Choice → ℕ → S
   state shot chosen n = target_of (made_at shot chosen n)
 
@@ -53,7 +53,7 @@ module _ {S : Type 0} (codec : Coding S) where
   abbrev pub NamesDiffer : List Picture → List Choice → Type 0
   NamesDiffer shot chosen = (m n : ℕ) → name_in (state shot chosen m) ≡ name_in (state shot chosen n) → state shot chosen m ≡ state shot chosen n
 
--- a number, its source, and so on
+-- a frame number, its source, and so on
 unfoldable pub sources_from : List Choice → ℕ → List ℕ
 sources_from [] n = []
 sources_from (choice ∷ older) n =

@@ -5,9 +5,11 @@ use Rattle.std.specs.List.{list_any}
 use Rattle.sal_base.specs.declared.coding.Encoding.{Encoding}
 use Rattle.sal_base.specs.declared.coding.Encoding.TheVariants.{Frame, Oversize}
 use Rattle.sal_codec.specs.Coding.{Coding}
-use Rattle.sal_wire.specs.Pieces.{count_of}
-use Rattle.sal_wire.specs.Spelling.{text}
-use Rattle.sal_budget.specs.Budget.{budget_of, least_of}
+use Rattle.sal_wire.specs.Fragmentation.{fragment_count}
+use Rattle.sal_wire.specs.Layout.{fragment_bytes}
+use Rattle.sal_budget.specs.Budget.{budget_of, least_window}
+use Rattle.sal_sender.specs.declared.outcome.Gave.{Gave}
+use Rattle.sal_sender.specs.declared.outcome.Gave.TheVariants.{Frame as GaveFrame, Oversize as GaveOversize, NoMemory as GaveNoMemory}
 use Rattle.sal_sender.specs.declared.choice.JobRole.TheVariants.{Coarse, Spare, Fine}
 use Rattle.sal_sender.specs.declared.choice.Choice.{Choice}
 use Rattle.sal_sender.specs.declared.choice.Size.{Size}
@@ -22,6 +24,7 @@ use Rattle.sal_sender.specs.OneThread.{Session, burst_after}
 use Rattle.sal_sender.specs.Acks.{safe, lost, average, flight}
 use Rattle.sal_sender.specs.Jobs.{Job, kind_of, base, jobs}
 
+-- the roles of jobs
 abbrev pub is_coarse : Job → Bool
 is_coarse job = elim job.role [ Coarse ↦ true | Spare ↦ false | Fine ↦ false ]
 
@@ -45,40 +48,55 @@ abbrev pub needed : Bool → List Job → Option Job
 needed true all = find is_spare all
 needed false all = find is_coarse all
 
-abbrev pub report_in : ℕ → Call → Option Bool
-report_in id (Report job ran Kept) = if job == id then Some ran else None
+-- what a call says of this job's report, where it kept it
+abbrev pub report_in : ℕ → Call → Option Gave
+report_in id (Report job gave Kept) = if job == id then Some gave else None
 report_in id _ = None
 
-abbrev pub first_of : {X : Type 0} → List X → Option X
-first_of [] = None
-first_of (x ∷ xs) = Some x
+-- the first of a list
+abbrev pub first_in : {X : Type 0} → List X → Option X
+first_in [] = None
+first_in (x ∷ xs) = Some x
 
--- whether the job was reported while its picture was open, and then whether it ran
-abbrev pub reported : Past → ℕ → Option Bool
-reported past id = first_of (filter_map (report_in id) past)
+-- the first of two that there is
+abbrev pub first_some : {X : Type 0} → Option X → Option X → Option X
+first_some None later = later
+first_some (Some x) later = Some x
 
--- the size of a report
-abbrev pub size_of : {S : Type 0} → Encoding S → Bool → Size
-size_of encoding false = NoMemory
-size_of (Frame bytes target recon) true = Datagrams (count_of bytes)
-size_of (Oversize first) true = TooLarge first
+-- whether the job was reported while its picture was open, and then what it gave
+abbrev pub reported : Past → ℕ → Option Gave
+reported past id = first_in (filter_map (report_in id) past)
 
-abbrev pub Candidate : Type 0
-Candidate = Job × Size
+-- the size of an encoding
+abbrev pub encoding_size : {S : Type 0} → Encoding S → Size
+encoding_size (Frame bytes target recon) = Datagrams (fragment_count bytes)
+encoding_size (Oversize first) = TooLarge first
 
-abbrev pub fits : ℕ → Candidate → Bool
-fits budget (job, Datagrams n) = nat_le n budget
-fits budget (job, TooLarge first) = false
-fits budget (job, NoMemory) = false
+-- the size of a report, by the encoding of its job and what it gave
+abbrev pub size_of : {S : Type 0} → Encoding S → Gave → Size
+size_of encoding GaveFrame = encoding_size encoding
+size_of encoding GaveOversize = encoding_size encoding
+size_of encoding GaveNoMemory = NoMemory
 
--- what may be sent at this moment
+-- a job with the size of its report
+abbrev pub SizedJob : Type 0
+SizedJob = Job × Size
+
+-- a frame of at most so many datagrams
+abbrev pub candidate_fits : ℕ → SizedJob → Bool
+candidate_fits budget (job, Datagrams n) = nat_le n budget
+candidate_fits budget (job, TooLarge first) = false
+candidate_fits budget (job, NoMemory) = false
+
+-- how many datagrams may be sent at this moment
 abbrev pub may_send : Session → Past → ℕ → ℕ
-may_send session past moment = budget_of (average past) (least_of session.head.width session.head.height) (flight past) moment
+may_send session past moment = budget_of (average past) (least_window session.head.width session.head.height) (flight past) moment
 
--- the floor that a choice sets: its own number where it is a key frame, else no more than its source
+-- the floor that a choice sets: its own frame number where it is a key frame, else at most its source
 abbrev pub floor_after : Past → ℕ → ℕ
 floor_after past source = if source == 0 then tip past + 1 else max (floor past) (min (safe past) source)
 
+-- the choice that comes next, of a job whose frame has so many datagrams
 abbrev pub choice_of : Past → ℕ → Job → ℕ → Choice
 choice_of past moment job count = record {
   number = tip past + 1;
@@ -93,36 +111,38 @@ choice_of past moment job count = record {
   moment = moment;
 }
 
-abbrev pub count_in : Size → ℕ
-count_in (Datagrams n) = n
-count_in (TooLarge first) = 0
-count_in NoMemory = 0
+-- how many datagrams it is, 0 without a frame
+abbrev pub datagram_count : Size → ℕ
+datagram_count (Datagrams n) = n
+datagram_count (TooLarge first) = 0
+datagram_count NoMemory = 0
 
 module _ {S : Type 0} (codec : Coding S) where
   -- the eligible reports, with their sizes
-  abbrev pub candidates : Past → Past → List Candidate
+  abbrev pub candidates : Past → Past → List SizedJob
   candidates before past = filter_map sized (eligible (lost_since before past) (jobs before))
     where
-      sized : Job → Option Candidate
-      sized job = option_map (λ ran. (job, size_of (codec.encode (state_at codec past job.source) (picture_at (pictures past) (length (pictures past))) job.q (kind_of job.source)) ran)) (reported past job.id)
+      sized : Job → Option SizedJob
+      sized job = option_map (λ gave. (job, size_of (codec.encode (state_at codec past job.source) (picture_at (pictures past) (length (pictures past))) job.q (kind_of job.source)) gave)) (reported past job.id)
 
 module _ {S : Type 0} (codec : Coding S) (session : Session) where
+  -- the answer with the datagrams of this choice
   abbrev pub sent_with : Past → Choice → Chosen
   sent_with past choice =
-      Sent choice (map text (burst_after codec session (pictures past) (choices past) choice (sent past)))
+      Sent choice (map fragment_bytes (burst_after codec session (pictures past) (choices past) choice (sent past)))
 
   -- the first candidate that fits, or the budget and all sizes
-  abbrev pub choose_found : Past → ℕ → ℕ → List Candidate → Option Candidate → Chosen
+  abbrev pub choose_found : Past → ℕ → ℕ → List SizedJob → Option SizedJob → Chosen
   choose_found past moment budget all None = Nothing budget (map (λ c. c.1) all)
-  choose_found past moment budget all (Some found) = sent_with past (choice_of past moment found.0 (count_in found.1))
+  choose_found past moment budget all (Some found) = sent_with past (choice_of past moment found.0 (datagram_count found.1))
 
-  abbrev pub choose_among : Past → ℕ → ℕ → List Candidate → Chosen
-  choose_among past moment budget all = choose_found past moment budget all (find (fits budget) all)
+  abbrev pub choose_among : Past → ℕ → ℕ → List SizedJob → Chosen
+  choose_among past moment budget all = choose_found past moment budget all (find (candidate_fits budget) all)
 
   -- nothing is chosen before the needed report is in
-  abbrev pub choose_reported : Past → Past → ℕ → Job → Option Bool → Chosen
+  abbrev pub choose_reported : Past → Past → ℕ → Job → Option Gave → Chosen
   choose_reported before past moment job None = Waiting job.id
-  choose_reported before past moment job (Some ran) = choose_among past moment (may_send session past moment) (candidates codec before past)
+  choose_reported before past moment job (Some gave) = choose_among past moment (may_send session past moment) (candidates codec before past)
 
   abbrev pub choose_needed : Past → Past → ℕ → Option Job → Chosen
   choose_needed before past moment None = NoPicture

@@ -1,5 +1,6 @@
 -- From which state a picture is encoded, and how often.
 use Rattle.std.specs.Prelude.{ℕ, ◌+◌, ◌-◌, min, Bool, ◌&&◌, not, List, [], ◌∷◌, ◌==◌, if◌then◌else◌}
+use Rattle.sal_base.specs.declared.limits.TheConstants.{WINDOW}
 use Rattle.sal_base.specs.declared.coding.Kind.{Kind}
 use Rattle.sal_base.specs.declared.coding.Kind.TheVariants.{Key, Inter}
 use Rattle.sal_sender.specs.declared.choice.JobRole.{JobRole}
@@ -7,7 +8,7 @@ use Rattle.sal_sender.specs.declared.choice.JobRole.TheVariants.{Coarse, Spare, 
 use Rattle.sal_sender.specs.Past.{Past, tip, floor, last_job, quantiser}
 use Rattle.sal_sender.specs.Acks.{safe, lost}
 
--- one encoding of a picture: from the state of its source, with this quantiser
+-- one encoding of a picture, by its id: from the state of this frame number, with this quantiser index
 pub record Job : Type 0 where
   pub id : ℕ
   pub role : JobRole
@@ -18,13 +19,14 @@ pub record Job : Type 0 where
 abbrev pub kind_of : ℕ → Kind
 kind_of source = if source == 0 then Key else Inter
 
--- the state to go on from: the initial one where the window is full, the safe one after a loss, else the tip
+-- the frame number of the state to go on from: 0, the initial one, where the window is full, the safe one after a loss, else the tip
 abbrev pub base : Past → ℕ
 base past =
-    if not (tip past == 0) && (((tip past - floor past) + 1) == 16) then 0
+    if not (tip past == 0) && (((tip past - floor past) + 1) == WINDOW) then 0
     else if lost past then safe past
     else tip past
 
+-- the jobs of a picture, by id, source and quantiser index
 abbrev pub coarse_job : ℕ → ℕ → ℕ → Job
 coarse_job id source q = record { id = id; role = Coarse; source = source; q = min 127 (q + 4) }
 
@@ -34,16 +36,16 @@ spare_job id source q = record { id = id; role = Spare; source = source; q = min
 abbrev pub fine_job : ℕ → ℕ → ℕ → Job
 fine_job id source q = record { id = id; role = Fine; source = source; q = q - 4 }
 
--- whether the state to go on from is the newest one, and the safe one is another
-abbrev pub is_spared : ℕ → ℕ → ℕ → Bool
-is_spared onward sure newest = onward == newest && not (onward == sure)
+-- whether the base is the tip, and the safe state is another one
+abbrev pub needs_spare : ℕ → ℕ → ℕ → Bool
+needs_spare base safe tip = base == tip && not (base == safe)
 
--- a coarse one; a spare one from the safe state where that is another one than the tip; a fine one
+-- a coarse job from the base; a spare one from the safe state, where the base is the tip and that is another one; a fine one from the base
 abbrev pub plan : ℕ → ℕ → ℕ → ℕ → ℕ → List Job
-plan first onward sure newest q =
-    if is_spared onward sure newest
-    then coarse_job first onward q ∷ spare_job (first + 1) sure q ∷ fine_job (first + 2) onward q ∷ []
-    else coarse_job first onward q ∷ fine_job (first + 1) onward q ∷ []
+plan first base safe tip q =
+    if needs_spare base safe tip
+    then coarse_job first base q ∷ spare_job (first + 1) safe q ∷ fine_job (first + 2) base q ∷ []
+    else coarse_job first base q ∷ fine_job (first + 1) base q ∷ []
 
 -- the jobs of a picture that is started after this past
 abbrev pub jobs : Past → List Job

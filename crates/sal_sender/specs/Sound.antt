@@ -1,4 +1,4 @@
--- What holds of the choices and jobs of every legal past.
+-- What holds of the choices and jobs of every list of calls with their answers.
 use Rattle.std.specs.Prelude.{◌≡◌, ◌⊎◌, ℕ, ◌+◌, ◌≤◌, List, [], ◌∷◌, length}
 use Rattle.sal_base.specs.Lists.{Each}
 use Rattle.sal_sender.specs.declared.choice.Choice.{Choice}
@@ -9,11 +9,11 @@ use Rattle.sal_sender.specs.Answers.{jobs_after}
 abbrev pub IsFrom : ℕ → ℕ → Type 0
 IsFrom floor source = (source ≡ 0) ⊎ (floor ≤ source)
 
--- the floor of a choice is its own number where its source is 0, else at most its source
+-- the floor of a choice is its own frame number where its source is 0, else at most its source
 abbrev pub HasFloor : Choice → Type 0
 HasFloor choice = ((choice.source ≡ 0) × (choice.floor ≡ choice.number)) ⊎ ((1 ≤ choice.source) × (choice.floor ≤ choice.source))
 
--- numbers are counted from 1, sources are older, floors never fall, the window is kept
+-- frames are numbered from 1, sources are older, floors never fall, the window is kept
 pub record Follows (older : List Choice) (choice : Choice) : Type 0 where
   pub number : choice.number ≡ length older + 1
   pub source : choice.source ≤ length older

@@ -1,10 +1,10 @@
-//! One encoding of a picture, handed out.
+//! A job: one encoding of a picture, to be handed out.
 
 ghost use Rattle.std.specs.Prelude.{◌≡◌, false};
 ghost use Rattle.std.specs.Arc.{arc_value};
 ghost use Rattle.sal_codec.specs.Coding.{MayEncode};
 ghost use Rattle.sal_sender.specs.Chain.{name_in};
-ghost use Rattle.sal_sender.specs.Work.{Work, IsOutcome};
+ghost use Rattle.sal_sender.specs.JobWork.{JobWork, IsOutcome};
 
 use crate::choice::JobRole;
 use crate::outcome::Outcome;
@@ -15,7 +15,10 @@ use std::alloc::Global;
 use std::marker::Model;
 use std::sync::Arc;
 
-/// A picture that is to be encoded from a state.
+// What stands for the digest of a frame's state where there is no frame.
+const NO_DIGEST: [u8; 32] = [0; 32];
+
+/// A picture that is to be encoded from a state. It owns shares of both, so that it runs anywhere.
 #[derive(Drop)]
 pub struct Job<C: Codec> {
     id: u32,
@@ -33,9 +36,9 @@ impl<C: Codec> Model for Job<C> {
     ghost use Rattle.std.specs.Arc.{arc_value};
     ghost use Rattle.sal_codec.specs.Coding.{MayEncode};
     ghost use Rattle.sal_sender.specs.Chain.{name_in};
-    ghost use Rattle.sal_sender.specs.Work.{Work};
+    ghost use Rattle.sal_sender.specs.JobWork.{JobWork};
 
-    ghost Value = { Work C.State };
+    ghost Value = { JobWork C.State };
 
     ghost view = { λ j. record { id = j.id; picture = j.picture; role = j.role; q = j.q; kind = j.kind; source = arc_value j.source; samples = arc_value j.samples } };
 
@@ -43,7 +46,7 @@ impl<C: Codec> Model for Job<C> {
 }
 
 impl<C: Codec> Job<C> {
-    /// A job that wasn't handed out yet.
+    /// A job that isn't handed out yet.
     pub(crate) fn new(
         id: u32,
         picture: u32,
@@ -70,14 +73,14 @@ impl<C: Codec> Job<C> {
         }
     }
 
-    /// The job's own number, from 1, rising over the session.
+    /// The job's id, from 1, rising over the session.
     pub fn id(&self) -> u32
         ensures { result ≡ self.now.id }
     {
         self.id
     }
 
-    /// The picture's number, from 1.
+    /// The picture number, from 1.
     pub fn picture(&self) -> u32
         ensures { result ≡ self.now.picture }
     {
@@ -91,7 +94,7 @@ impl<C: Codec> Job<C> {
         self.role
     }
 
-    /// The quantiser, 0 to 127.
+    /// The quantiser index, 0 to 127.
     pub fn q(&self) -> u8
         ensures { result ≡ self.now.q }
     {
@@ -113,7 +116,7 @@ impl<C: Codec> Job<C> {
         self.source_name
     }
 
-    /// Encodes the picture. This is the only maker of a report.
+    /// Encodes the picture. This is the only maker of a report. Want of memory is reported as such.
     pub fn run(self, alloc: Global, codec: &C) -> Report<C>
         ensures { result.work ≡ self }
     {
@@ -126,18 +129,18 @@ impl<C: Codec> Job<C> {
                     recon,
                 },
             ) => {
-                let name = codec.name(&target);
+                let digest = codec.digest(&target);
                 match Arc::new(alloc, target) {
-                    Ok(target) => Report::new(self, name, Outcome::Frame(bytes, target, recon)),
-                    Err(_) => Report::new(self, Name::ZERO, Outcome::NoMemory),
+                    Ok(target) => Report::new(self, digest, Outcome::Frame(bytes, target, recon)),
+                    Err(_) => Report::new(self, NO_DIGEST, Outcome::NoMemory),
                 }
             }
             Ok(Encoding::Oversize { first }) => Report::new(
                 self,
-                Name::ZERO,
+                NO_DIGEST,
                 Outcome::Oversize(first),
             ),
-            Err(_) => Report::new(self, Name::ZERO, Outcome::NoMemory),
+            Err(_) => Report::new(self, NO_DIGEST, Outcome::NoMemory),
         }
     }
 }

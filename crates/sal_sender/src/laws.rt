@@ -5,6 +5,8 @@ ghost use Rattle.sal_sender.specs.OneThread.{Session};
 ghost use Rattle.sal_sender.specs.Promises.{IsLegal, IsWhatOneThreadSends, FitsItsBudget};
 ghost use Rattle.sal_sender.specs.Sound.{IsSound};
 
+use crate::job::Job;
+use crate::report::Report;
 use sal_codec::Codec;
 
 /// Sent is what one thread sends that makes the same choices.
@@ -19,8 +21,17 @@ pub fn fits_its_budget<C: Codec>()
     ensures { (session : Session) (past : Past) → IsLegal C.coding session past → FitsItsBudget C.coding session past }
 {}
 
-/// Choices are counted from 1, their sources are older, floors never fall, and the window has sixteen numbers.
+/// Frames are numbered from 1, their sources are older, floors never fall, and the window has sixteen frame numbers.
 #[tactic(auto, using(crate::proofs::Sound::sound))]
 pub fn keeps_its_window<C: Codec>()
     ensures { (session : Session) (past : Past) → IsLegal C.coding session past → IsSound past }
 {}
+
+// What has this bound may go to another thread.
+fn crosses_threads<T: Send>() {}
+
+/// A job may go to another thread, which runs it, and its report may come back, with all that they hold.
+pub fn jobs_cross_threads<C: Codec>() {
+    crosses_threads::<Job<C>>();
+    crosses_threads::<Report<C>>();
+}

@@ -1,7 +1,8 @@
-//! Lists of bounded length, and a burst of datagrams.
+//! Lists that the answers carry: frame numbers, sizes, datagrams.
 
 ghost use Rattle.std.specs.Prelude.{◌≡◌, ◌<◌, ◌≤◌, ℕ, List, [], ◌∷◌, ◌++◌, length, OnOk};
 ghost use Rattle.std.specs.Option.{option_to_list};
+ghost use Rattle.sal_base.specs.declared.limits.TheConstants.{WINDOW};
 ghost use Rattle.sal_sender.specs.declared.choice.Size.{Size as SizeData};
 
 use crate::choice::Size;
@@ -10,46 +11,46 @@ use sal_base::{Bytes, Memory};
 use std::alloc::Global;
 use std::marker::Model;
 
-/// The numbers newly acknowledged.
+/// The frame numbers that an acknowledgement names for the first time, at most sixteen.
 #[derive(Drop)]
-pub struct Numbers {
+pub struct FrameNumbers {
     items: ArrayVec<u32, 16>,
 }
 
-impl Model for Numbers {
+impl Model for FrameNumbers {
     ghost Value = { List ℕ };
 
     ghost view = { λ n. n.items.items };
 }
 
-impl Numbers {
-    /// No numbers.
+impl FrameNumbers {
+    /// No frame numbers.
     pub(crate) fn new() -> Self
         ensures { result ≡ [] }
     {
-        Numbers {
+        FrameNumbers {
             items: ArrayVec::new(),
         }
     }
 
-    /// The numbers, lent.
+    /// The frame numbers, in rising order, lent.
     pub fn as_slice(&self) -> &[u32]
         ensures value { result.now ≡ self.now }
-        ensures fits { length result.now ≤ 16 }
+        ensures fits { length result.now ≤ WINDOW }
     {
         self.items.as_slice()
     }
 
-    /// Adds a number at the end, where there is room.
+    /// Adds a frame number at the end, where there is room.
     pub(crate) fn push(&mut self, number: u32)
-        requires { length self.old < 16 }
+        requires { length self.old < WINDOW }
         ensures { self.new ≡ self.old ++ number ∷ [] }
     {
         self.items.push(number);
     }
 }
 
-/// The sizes of the candidates.
+/// The sizes of the candidates whose reports are in, at most two.
 #[derive(Drop)]
 pub struct Sizes {
     items: ArrayVec<Size, 2>,
@@ -71,7 +72,7 @@ impl Sizes {
         }
     }
 
-    /// The sizes, lent.
+    /// The sizes, of the candidate that is wanted most first, lent.
     pub fn as_slice(&self) -> &[Size]
         ensures value { result.now ≡ self.now }
         ensures fits { length result.now ≤ 2 }
@@ -90,7 +91,7 @@ impl Sizes {
     }
 }
 
-/// The datagrams of a choice.
+/// The datagrams of a choice, in the order of their serials.
 #[derive(Drop)]
 pub struct Burst {
     items: Vec<Bytes>,

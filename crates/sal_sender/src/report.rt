@@ -1,18 +1,20 @@
-//! What a job gave.
+//! The report of a job: what it gave.
 
-ghost use Rattle.std.specs.Prelude.{◌≡◌, ◌≤◌, length};
+ghost use Rattle.std.specs.Prelude.{◌≡◌, ◌⊎◌, ◌≤◌, length};
 ghost use Rattle.sal_codec.specs.Coding.{MayEncode};
-ghost use Rattle.sal_wire.specs.Pieces.{count_of};
+ghost use Rattle.sal_wire.specs.Fragmentation.{fragment_count};
 ghost use Rattle.sal_sender.specs.Chain.{name_in};
-ghost use Rattle.sal_sender.specs.Choosing.{count_in};
-ghost use Rattle.sal_sender.specs.Picking.{size_of_ran};
-ghost use Rattle.sal_sender.specs.Work.{Work, IsOutcome, IsNamed, did_run, encoded};
+ghost use Rattle.sal_sender.specs.Choosing.{datagram_count};
+ghost use Rattle.sal_sender.specs.Selecting.{size_of_report};
+ghost use Rattle.sal_sender.specs.JobWork.{JobWork, IsOutcome, IsTargetName, IsTargetDigest, gave_of, given, encoded};
+ghost use Rattle.sal_sender.specs.declared.outcome.Gave.TheVariants.{NoMemory as GaveNoMemory};
 
 use crate::choice::{JobRole, Size};
 use crate::job::Job;
-use crate::outcome::Outcome;
+use crate::outcome::{Gave, Outcome};
 use sal_base::{Bytes, Kind, Name};
-use sal_codec::{Codec, keeps_the_law};
+use sal_codec::{Codec, keeps_the_law, name_of};
+use sal_wire::MAX_DATA;
 use std::marker::Model;
 use std::sync::Arc;
 
@@ -20,50 +22,54 @@ use std::sync::Arc;
 #[derive(Drop)]
 pub struct Report<C: Codec> {
     job: Job<C>,
-    target_name: Name,
-    ran: Outcome<Arc<C::State>>,
+    target_digest: [u8; 32],
+    outcome: Outcome<Arc<C::State>>,
 }
 
 impl<C: Codec> Model for Report<C> {
-    ghost use Rattle.sal_sender.specs.Work.{Ran, IsOutcome, IsNamed, did_run, encoded};
+    ghost use Rattle.sal_sender.specs.JobWork.{JobReport, IsOutcome, IsTargetDigest, gave_of, encoded};
 
-    ghost Value = { Ran C.State };
+    ghost Value = { JobReport C.State };
 
-    ghost view = { λ r. record { work = r.job; ran = did_run r.ran } };
+    ghost view = { λ r. record { work = r.job; gave = gave_of r.outcome } };
 
-    ghost invariant = { λ r. IsOutcome (encoded C.coding r.job) r.ran × IsNamed C.coding r.target_name r.ran };
+    ghost invariant = { λ r. IsOutcome (encoded C.coding r.job) r.outcome × IsTargetDigest C.coding r.target_digest r.outcome };
 }
 
-/// How many datagrams a frame has.
+// How many datagrams a frame has: its bytes by those of one, rounded up.
 fn count(frame: &Bytes) -> u32
     requires { length frame.now ≤ 4294967295 }
-    ensures { result ≡ count_of frame.now }
+    ensures { result ≡ fragment_count frame.now }
 {
-    ((frame.len() + 1199) / 1200) as u32
+    ((frame.len() + MAX_DATA - 1) / MAX_DATA) as u32
 }
 
 impl<C: Codec> Report<C> {
     /// The report of a job that gave this.
-    pub(crate) fn new(job: Job<C>, target_name: Name, ran: Outcome<Arc<C::State>>) -> Report<C>
-        requires outcome { IsOutcome (encoded C.coding job) ran }
-        requires named { IsNamed C.coding target_name ran }
-        ensures { result ≡ record { work = job; ran = did_run ran } }
+    pub(crate) fn new(
+        job: Job<C>,
+        target_digest: [u8; 32],
+        outcome: Outcome<Arc<C::State>>,
+    ) -> Report<C>
+        requires outcome { IsOutcome (encoded C.coding job) outcome }
+        requires digest { IsTargetDigest C.coding target_digest outcome }
+        ensures { result ≡ record { work = job; gave = gave_of outcome } }
     {
         Report {
             job,
-            target_name,
-            ran,
+            target_digest,
+            outcome,
         }
     }
 
-    /// The job's number.
+    /// The job's id, from 1.
     pub fn id(&self) -> u32
         ensures { result ≡ self.now.work.id }
     {
         self.job.id()
     }
 
-    /// The picture's number, from 1.
+    /// The picture number, from 1.
     pub fn picture(&self) -> u32
         ensures { result ≡ self.now.work.picture }
     {
@@ -77,7 +83,7 @@ impl<C: Codec> Report<C> {
         self.job.role()
     }
 
-    /// The quantiser, 0 to 127.
+    /// The quantiser index, 0 to 127.
     pub fn q(&self) -> u8
         ensures { result ≡ self.now.work.q }
     {
@@ -94,9 +100,18 @@ impl<C: Codec> Report<C> {
     /// What the job gave, lent.
     pub fn outcome(&self) -> &Outcome<Arc<C::State>>
         ensures encoding { IsOutcome (encoded C.coding self.now.work) result.now }
-        ensures ran { did_run result.now ≡ self.now.ran }
+        ensures gave { gave_of result.now ≡ self.now.gave }
     {
-        &self.ran
+        &self.outcome
+    }
+
+    /// What the job gave, without the frame itself.
+    #[tactic(auto, using(crate::proofs::Picks::given_or_none))]
+    pub fn gave(&self) -> Gave
+        ensures value { result ≡ self.now.gave }
+        ensures given { (result ≡ GaveNoMemory) ⊎ (result ≡ given (encoded C.coding self.now.work)) }
+    {
+        self.outcome.gave()
     }
 
     /// The name of the state that the frame was encoded from.
@@ -108,17 +123,18 @@ impl<C: Codec> Report<C> {
     }
 
     /// What the job gave, with the name of the state that a frame leads to.
+    #[tactic(auto, using(crate::proofs::Picks::named_by))]
     pub fn named_outcome(&self) -> (Name, &Outcome<Arc<C::State>>)
         ensures encoding { IsOutcome (encoded C.coding self.now.work) result.1.now }
-        ensures named { IsNamed C.coding result.0 result.1.now }
-        ensures ran { did_run result.1.now ≡ self.now.ran }
+        ensures named { IsTargetName C.coding result.0 result.1.now }
+        ensures gave { gave_of result.1.now ≡ self.now.gave }
     {
-        (self.target_name, &self.ran)
+        (name_of(&self.target_digest), &self.outcome)
     }
 
-    /// How many datagrams its frame has, 0 where there is none.
+    /// How many datagrams its frame has, 0 where there is no frame.
     pub(crate) fn count(&self) -> u32
-        ensures { result ≡ count_in (size_of_ran C.coding self.now) }
+        ensures { result ≡ datagram_count (size_of_report C.coding self.now) }
     {
         match self.size() {
             Size::Datagrams(count) => count,
@@ -126,13 +142,13 @@ impl<C: Codec> Report<C> {
         }
     }
 
-    /// How large it is.
+    /// What sending it takes: the datagrams of its frame, or why there is no frame.
     pub fn size(&self) -> Size
-        ensures { result ≡ size_of_ran C.coding self.now }
+        ensures { result ≡ size_of_report C.coding self.now }
     {
         keeps_the_law::<C>();
         let _name = self.job.source_name();
-        match &self.ran {
+        match &self.outcome {
             Outcome::Frame(bytes, _, _) => Size::Datagrams(count(bytes)),
             Outcome::Oversize(first) => Size::Oversize(*first),
             Outcome::NoMemory => Size::NoMemory,

@@ -9,10 +9,10 @@ use Rattle.byteorder.specs.Numbers.{big_number-reads_back}
 use Rattle.sal_base.specs.declared.name.Name.{Name}
 use Rattle.sal_base.specs.Lists.{Each}
 use Rattle.sal_wire.specs.declared.datagram.Ack.{Ack}
-use Rattle.sal_wire.specs.Came.{Report, End}
-use Rattle.sal_wire.specs.Spelling.{quad, name_text, eight_zeros, state_text, ack_head, ack_text, bye_text, IsSent, AreRising, IsAck, FitsAck, FitsBye}
+use Rattle.sal_wire.specs.Message.{AckMessage, ByeMessage}
+use Rattle.sal_wire.specs.Layout.{u32_bytes, name_bytes, eight_zeros, state_bytes, ack_head, ack_bytes, bye_bytes, IsWireName, AreRising, IsAck, FitsAck, FitsBye}
 use Rattle.sal_wire.specs.Rules.{first_fault, held_tests, ack_tests, bye_tests}
-use Rattle.sal_wire.specs.Reading.{number_at, name_at, held_at, ack_of, unless, came, came_as}
+use Rattle.sal_wire.specs.Parsing.{big_endian_at, name_at, held_at, ack_fields, unless, parsed, parsed_as}
 use Rattle.sal_wire.proofs.Fronts.{none_fails, front_passes, came_kind}
 
 cells : (a b c d e f g h a' b' c' d' e' f' g' h' : ℕ) (rest : List ℕ) → a ≡ a' → b ≡ b' → c ≡ c' → d ≡ d' → e ≡ e' → f ≡ f' → g ≡ g' → h ≡ h'
@@ -33,43 +33,43 @@ name_moved place bytes =
     (sym (get_or-drop place bytes 6 0))
     (sym (get_or-drop place bytes 7 0))
 
-number_in_front : (front : List ℕ) (number : ℕ) (name more : List ℕ) → number < 2 ^ 32 → number_at 4 (length front) (front ++ ((quad number ++ name_text name) ++ more)) ≡ number
-unfolding quad name_text
+number_in_front : (front : List ℕ) (number : ℕ) (name more : List ℕ) → number < 2 ^ 32 → big_endian_at 4 (length front) (front ++ ((u32_bytes number ++ name_bytes name) ++ more)) ≡ number
+unfolding u32_bytes name_bytes
 number_in_front front number name more fits =
-    ap (λ (x : List ℕ). big_number 4 x) (drop-append_seam front ((quad number ++ name_text name) ++ more)) ∙ big_number-reads_back 4 number [] fits
+    ap (λ (x : List ℕ). big_number 4 x) (drop-append_seam front ((u32_bytes number ++ name_bytes name) ++ more)) ∙ big_number-reads_back 4 number [] fits
 
-name_in_front : (front : List ℕ) (number : ℕ) (name more : List ℕ) → IsSent name → name_at (length front + 4) (front ++ ((quad number ++ name_text name) ++ more)) ≡ name
-unfolding quad name_text
+name_in_front : (front : List ℕ) (number : ℕ) (name more : List ℕ) → IsWireName name → name_at (length front + 4) (front ++ ((u32_bytes number ++ name_bytes name) ++ more)) ≡ name
+unfolding u32_bytes name_bytes
 name_in_front front number name more sent =
-    name_moved (length front + 4) (front ++ ((quad number ++ name_text name) ++ more))
-    ∙ ap (λ (x : List ℕ). name_at 0 x) (drop-append-add front ((quad number ++ name_text name) ++ more) 4)
+    name_moved (length front + 4) (front ++ ((u32_bytes number ++ name_bytes name) ++ more))
+    ∙ ap (λ (x : List ℕ). name_at 0 x) (drop-append-add front ((u32_bytes number ++ name_bytes name) ++ more) 4)
     ∙ sym sent
 
-length_state : (h : ℕ × Name) → length (state_text h) ≡ 12
-unfolding quad name_text
+length_state : (h : ℕ × Name) → length (state_bytes h) ≡ 12
+unfolding u32_bytes name_bytes
 length_state h = refl
 
-length_states : (held : List (ℕ × Name)) → length (flat_map state_text held) ≡ 12 * length held
+length_states : (held : List (ℕ × Name)) → length (flat_map state_bytes held) ≡ 12 * length held
 length_states [] = refl
 length_states (h ∷ held) =
     let here = length_state h in
     let more = length_states held in
-    let both = length-append (state_text h) (flat_map state_text held) in
+    let both = length-append (state_bytes h) (flat_map state_bytes held) in
     omega (arith, here, more, both)
 
-held_again : (before : ℕ) (held : List (ℕ × Name)) (front : List ℕ) → AreRising before held → held_at (length held) (length front) (front ++ flat_map state_text held) ≡ held
+held_again : (before : ℕ) (held : List (ℕ × Name)) (front : List ℕ) → AreRising before held → held_at (length held) (length front) (front ++ flat_map state_bytes held) ≡ held
 unfolding held_at
 held_again before [] front rising = refl
 held_again before (h ∷ held) front rising =
-    let more = flat_map state_text held in
-    let bytes = front ++ (state_text h ++ more) in
-    let number : number_at 4 (length front) bytes ≡ h.0 = number_in_front front h.0 h.1.0 more (omega (arith, rising.1)) in
+    let more = flat_map state_bytes held in
+    let bytes = front ++ (state_bytes h ++ more) in
+    let number : big_endian_at 4 (length front) bytes ≡ h.0 = number_in_front front h.0 h.1.0 more (omega (arith, rising.1)) in
     let name : name_at (length front + 4) bytes ≡ h.1.0 = name_in_front front h.0 h.1.0 more rising.2 in
-    let long : length (front ++ state_text h) ≡ length front + 12 = length-append front (state_text h) ∙ ap (λ (n : ℕ). length front + n) (length_state h) in
-    let same : (front ++ state_text h) ++ more ≡ bytes = append_assoc front (state_text h) more in
+    let long : length (front ++ state_bytes h) ≡ length front + 12 = length-append front (state_bytes h) ∙ ap (λ (n : ℕ). length front + n) (length_state h) in
+    let same : (front ++ state_bytes h) ++ more ≡ bytes = append_assoc front (state_bytes h) more in
     ap (λ (n : ℕ). (n, record { 0 = name_at (length front + 4) bytes }) ∷ held_at (length held) (length front + 12) bytes) number
     ∙ ap (λ (n : List ℕ). (h.0, record { 0 = n }) ∷ held_at (length held) (length front + 12) bytes) name
-    ∙ ap (λ (x : List (ℕ × Name)). h ∷ x) (ap (λ (n : ℕ). held_at (length held) n bytes) (sym long) ∙ ap (λ (x : List ℕ). held_at (length held) (length (front ++ state_text h)) x) (sym same) ∙ held_again h.0 held (front ++ state_text h) rising.3)
+    ∙ ap (λ (x : List (ℕ × Name)). h ∷ x) (ap (λ (n : ℕ). held_at (length held) n bytes) (sym long) ∙ ap (λ (x : List ℕ). held_at (length held) (length (front ++ state_bytes h)) x) (sym same) ∙ held_again h.0 held (front ++ state_bytes h) rising.3)
 
 -- an acknowledgement of these fields
 abbrev ack : ℕ → ℕ → ℕ → List (ℕ × Name) → Ack
@@ -79,12 +79,12 @@ acks_equal : (session serial gap session' serial' gap' : ℕ) (held held' : List
     → ack session serial gap held ≡ ack session' serial' gap' held'
 acks_equal session serial gap session' serial' gap' held held' a b c d = cc
 
-count_again : (a : Ack) → slice_index (ack_text a) 14 ≡ length a.held
-unfolding ack_text quad
+count_again : (a : Ack) → slice_index (ack_bytes a) 14 ≡ length a.held
+unfolding ack_bytes u32_bytes
 count_again a = refl
 
-ack_again : (a : Ack) → FitsAck a → IsAck a → ack_of (ack_text a) ≡ a
-unfolding ack_of ack_text quad
+ack_again : (a : Ack) → FitsAck a → IsAck a → ack_fields (ack_bytes a) ≡ a
+unfolding ack_fields ack_bytes u32_bytes
 ack_again a fits is =
     acks_equal _ _ _ _ _ _ _ _
     (big_number-reads_back 4 a.session [] fits.session)
@@ -92,8 +92,8 @@ ack_again a fits is =
     (big_number-reads_back 4 a.gap [] fits.gap)
     (held_again 0 a.held (ack_head a) is.rising)
 
-length_ack : (a : Ack) → length (ack_text a) ≡ 15 + 12 * length a.held
-unfolding ack_text quad
+length_ack : (a : Ack) → length (ack_bytes a) ≡ 15 + 12 * length a.held
+unfolding ack_bytes u32_bytes
 length_ack a = let e = length_states a.held in omega (arith, e)
 
 rising_passes : (before place : ℕ) (held : List (ℕ × Name)) → AreRising before held → Each (λ t. t.0 ≡ true) (held_tests before place held)
@@ -105,39 +105,39 @@ ack_passes a count size is same long =
     none_fails (ack_tests count size a.held)
     (le-leb count 16 (omega (arith, is.few)), (eq-eqb size (15 + 12 * count) (omega arith), rising_passes 0 15 a.held is.rising))
 
-front_of_ack : (a : Ack) → came (ack_text a) ≡ came_as 0x41 (ack_text a)
-unfolding ack_text
-front_of_ack a = let long = length_ack a in came_kind (ack_text a) 0x41 refl (front_passes (ack_text a) 0x41 refl refl refl (omega (arith, long)) (omega (arith, long)))
+front_of_ack : (a : Ack) → parsed (ack_bytes a) ≡ parsed_as 0x41 (ack_bytes a)
+unfolding ack_bytes
+front_of_ack a = let long = length_ack a in came_kind (ack_bytes a) 0x41 refl (front_passes (ack_bytes a) 0x41 refl refl refl (omega (arith, long)) (omega (arith, long)))
 
-pub report_again : (a : Ack) → FitsAck a → IsAck a → came (ack_text a) ≡ Ok (Report a)
+pub report_again : (a : Ack) → FitsAck a → IsAck a → parsed (ack_bytes a) ≡ Ok (AckMessage a)
 report_again a fits is =
-    let bytes = ack_text a in
+    let bytes = ack_bytes a in
     front_of_ack a
-    ∙ ap (λ (x : Ack). unless (first_fault (ack_tests (slice_index bytes 14) (length bytes) x.held)) (Report x)) (ack_again a fits is)
-    ∙ ap (λ x. unless x (Report a)) (ack_passes a (slice_index bytes 14) (length bytes) is (count_again a) (length_ack a))
+    ∙ ap (λ (x : Ack). unless (first_fault (ack_tests (slice_index bytes 14) (length bytes) x.held)) (AckMessage x)) (ack_again a fits is)
+    ∙ ap (λ x. unless x (AckMessage a)) (ack_passes a (slice_index bytes 14) (length bytes) is (count_again a) (length_ack a))
 
-length_bye : (session last : ℕ) → length (bye_text session last) ≡ 10
-unfolding bye_text quad
+length_bye : (session last : ℕ) → length (bye_bytes session last) ≡ 10
+unfolding bye_bytes u32_bytes
 length_bye session last = refl
 
-session_again : (session last : ℕ) → session < 2 ^ 32 → number_at 4 2 (bye_text session last) ≡ session
-unfolding bye_text quad
+session_again : (session last : ℕ) → session < 2 ^ 32 → big_endian_at 4 2 (bye_bytes session last) ≡ session
+unfolding bye_bytes u32_bytes
 session_again session last fits = big_number-reads_back 4 session [] fits
 
-last_again : (session last : ℕ) → last < 2 ^ 32 → number_at 4 6 (bye_text session last) ≡ last
-unfolding bye_text quad
+last_again : (session last : ℕ) → last < 2 ^ 32 → big_endian_at 4 6 (bye_bytes session last) ≡ last
+unfolding bye_bytes u32_bytes
 last_again session last fits = big_number-reads_back 4 last [] fits
 
-front_of_bye : (session last : ℕ) → came (bye_text session last) ≡ came_as 0x42 (bye_text session last)
-unfolding bye_text
+front_of_bye : (session last : ℕ) → parsed (bye_bytes session last) ≡ parsed_as 0x42 (bye_bytes session last)
+unfolding bye_bytes
 front_of_bye session last =
     let long = length_bye session last in
-    came_kind (bye_text session last) 0x42 refl (front_passes (bye_text session last) 0x42 refl refl refl (omega (arith, long)) (omega (arith, long)))
+    came_kind (bye_bytes session last) 0x42 refl (front_passes (bye_bytes session last) 0x42 refl refl refl (omega (arith, long)) (omega (arith, long)))
 
-pub end_again : (session last : ℕ) → FitsBye session last → came (bye_text session last) ≡ Ok (End session last)
+pub end_again : (session last : ℕ) → FitsBye session last → parsed (bye_bytes session last) ≡ Ok (ByeMessage session last)
 end_again session last fits =
-    let bytes = bye_text session last in
+    let bytes = bye_bytes session last in
     front_of_bye session last
-    ∙ ap (λ (n : ℕ). unless (first_fault (bye_tests n)) (End (number_at 4 2 bytes) (number_at 4 6 bytes))) (length_bye session last)
-    ∙ ap (λ (n : ℕ). Ok (End n (number_at 4 6 bytes))) (session_again session last fits.session_fits)
-    ∙ ap (λ (n : ℕ). Ok (End session n)) (last_again session last fits.last_fits)
+    ∙ ap (λ (n : ℕ). unless (first_fault (bye_tests n)) (ByeMessage (big_endian_at 4 2 bytes) (big_endian_at 4 6 bytes))) (length_bye session last)
+    ∙ ap (λ (n : ℕ). Ok (ByeMessage n (big_endian_at 4 6 bytes))) (session_again session last fits.session_fits)
+    ∙ ap (λ (n : ℕ). Ok (ByeMessage session n)) (last_again session last fits.last_fits)

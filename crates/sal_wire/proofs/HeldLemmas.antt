@@ -7,7 +7,7 @@ use Rattle.sal_base.specs.Lists.{Each}
 use Rattle.sal_wire.specs.declared.fault.Wire.TheVariants.{Held}
 use Rattle.sal_wire.specs.declared.fault.WireFault.{WireFault}
 use Rattle.sal_wire.specs.Rules.{Test, test, first_fault, held_tests}
-use Rattle.sal_wire.specs.Reading.{number_at, name_at, held_at, unless}
+use Rattle.sal_wire.specs.Parsing.{big_endian_at, name_at, held_at, unless}
 
 pub passed : (p : Bool) (f : WireFault) (rest : Option WireFault) → (if p then rest else Some f) ≡ None → (p ≡ true) × (rest ≡ None)
 passed true f rest e = (refl, e)
@@ -36,7 +36,7 @@ held_split (suc i) m place bytes =
     let all : suc i + m ≡ suc (i + m) = omega arith in
     let there : place + 12 + 12 * i ≡ place + 12 * suc i = omega arith in
     ap (λ n. held_at n place bytes) all
-    ∙ ap (λ x. (number_at 4 place bytes, record { 0 = name_at (place + 4) bytes }) ∷ x) (held_split i m (place + 12) bytes ∙ ap (λ p. held_at i (place + 12) bytes ++ held_at m p bytes) there)
+    ∙ ap (λ x. (big_endian_at 4 place bytes, record { 0 = name_at (place + 4) bytes }) ∷ x) (held_split i m (place + 12) bytes ∙ ap (λ p. held_at i (place + 12) bytes ++ held_at m p bytes) there)
 
 pub length_held : (n place : ℕ) (bytes : List ℕ) → length (held_at n place bytes) ≡ n
 unfolding held_at
@@ -87,11 +87,11 @@ one_passed : (before number place : ℕ) → before < number → number ≤ 1048
 one_passed before number place above below = rw (lt-ltb before number above, le-leb number 1048575 below) refl
 
 pub one_more : (bytes : List ℕ) (i before : ℕ) (held : List (ℕ × Name)) (number : ℕ) (name : Name) → IsFar bytes i before held
-    → number ≡ number_at 4 (15 + 12 * i) bytes → name.0 ≡ name_at (15 + 12 * i + 4) bytes → before < number → number ≤ 1048575
+    → number ≡ big_endian_at 4 (15 + 12 * i) bytes → name.0 ≡ name_at (15 + 12 * i + 4) bytes → before < number → number ≤ 1048575
     → IsFar bytes (i + 1) number (held ++ (number, name) ∷ [])
 unfolding held_at
 one_more bytes i before held number name far is_number is_name above below =
-    let state : (number, name) ∷ [] ≡ held_at 1 (15 + 12 * i) bytes = ap (λ n. (n, name) ∷ []) is_number ∙ ap (λ n. (number_at 4 (15 + 12 * i) bytes, record { 0 = n }) ∷ []) is_name in
+    let state : (number, name) ∷ [] ≡ held_at 1 (15 + 12 * i) bytes = ap (λ n. (n, name) ∷ []) is_number ∙ ap (λ n. (big_endian_at 4 (15 + 12 * i) bytes, record { 0 = n }) ∷ []) is_name in
     let whole : held ++ (number, name) ∷ [] ≡ held_at (i + 1) 15 bytes = ap (λ x. x ++ (number, name) ∷ []) far.taken ∙ ap (λ x. held_at i 15 bytes ++ x) state ∙ sym (held_split i 1 15 bytes) in
     record {
       taken = whole;
@@ -108,12 +108,12 @@ not_rising before number (inl low) = rw (le-ltb before number low) refl
 not_rising before number (inr high) = and_right _ _ (lt-leb number 1048575 high)
 
 pub broken_here : (bytes : List ℕ) (i count before : ℕ) (held : List (ℕ × Name)) (number : ℕ) → IsFar bytes i before held → i < count
-    → number ≡ number_at 4 (15 + 12 * i) bytes → (number ≤ before) ⊎ (1048575 < number)
+    → number ≡ big_endian_at 4 (15 + 12 * i) bytes → (number ≤ before) ⊎ (1048575 < number)
     → Err (record { what = Held; place = 15 + 12 * i }) ≡ unless (first_fault (held_tests 0 15 (held_at count 15 bytes))) (held_at count 15 bytes)
 unfolding held_at
 broken_here bytes i count before held number far inside is_number wrong =
     let all : count ≡ i + suc (count - i - 1) = omega arith in
-    let here : (ltb before (number_at 4 (15 + 12 * i) bytes) && leb (number_at 4 (15 + 12 * i) bytes) 1048575) ≡ false =
+    let here : (ltb before (big_endian_at 4 (15 + 12 * i) bytes) && leb (big_endian_at 4 (15 + 12 * i) bytes) 1048575) ≡ false =
     ap (λ n. ltb before n && leb n 1048575) (sym is_number) ∙ not_rising before number wrong in
     let fault : first_fault (held_tests 0 15 (held_at count 15 bytes)) ≡ Some (record { what = Held; place = 15 + 12 * i }) =
     ap (λ n. first_fault (held_tests 0 15 (held_at n 15 bytes))) all

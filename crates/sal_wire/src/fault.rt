@@ -1,6 +1,6 @@
 //! Why bytes are no datagram.
 
-/// What fails.
+/// Which test fails.
 #[derive(Clone, Copy, Debug, PartialEq, Eq)]
 pub enum Wire {
     /// The bytes end before the head does; the place is their number.
@@ -11,7 +11,7 @@ pub enum Wire {
     Version,
     /// A serial of 0.
     Serial,
-    /// A number outside 1 to 1,048,575, or a floor that isn't among it and the 15 numbers below it.
+    /// A frame number outside 1 to 1,048,575, or a floor that isn't among it and the 15 numbers below it.
     Window,
     /// A count outside 1 to 4,096, or an index not below it.
     Index,
@@ -21,13 +21,15 @@ pub enum Wire {
     Rate,
     /// A length that isn't that of the bytes, or one that this place in the frame can't have.
     Length,
-    /// More than 16 states, or a number outside 1 to 1,048,575 or not above the one before.
+    /// More than 16 states, or a frame number outside 1 to 1,048,575 or not above the one before.
     Held,
 }
 
 /// The first test that fails, and the offset of the bytes that it is about.
 #[derive(Clone, Copy, Debug, PartialEq, Eq)]
 pub struct WireFault {
+    /// The first test that fails.
     pub what: Wire,
+    /// The offset of the field that it is about, in bytes from 0; for `Short` the number of bytes, at most 55.
     pub place: u16,
 }

@@ -3,11 +3,11 @@ use Rattle.std.proofs.Common.{◌≡◌, ℕ, ◌+◌, ◌*◌, ◌^◌, ◌<◌
 use Rattle.sal_base.specs.Lists.{Has, Each}
 use Rattle.sal_base.specs.declared.picture.Picture.{Picture}
 use Rattle.sal_codec.specs.Coding.{Coding, Made, made_of, name_of, IsLawful}
-use Rattle.sal_wire.specs.Entry.{Entry}
-use Rattle.sal_wire.specs.Came.{Part}
-use Rattle.sal_wire.specs.Pieces.{count_of, piece}
-use Rattle.sal_wire.specs.Spelling.{text, name_text, IsSent as IsSentName, Fits, IsFragment}
-use Rattle.sal_wire.specs.Reading.{came}
+use Rattle.sal_wire.specs.Fields.{FragmentFields}
+use Rattle.sal_wire.specs.Message.{FragmentMessage}
+use Rattle.sal_wire.specs.Fragmentation.{fragment_count, fragment_data}
+use Rattle.sal_wire.specs.Layout.{fragment_bytes, name_bytes, IsWireName, FitsFragment, IsFragment}
+use Rattle.sal_wire.specs.Parsing.{parsed}
 use Rattle.sal_wire.proofs.Again.{fragment_again}
 use Rattle.sal_sender.specs.declared.choice.Choice.{Choice}
 use Rattle.sal_sender.specs.Past.{Past, choices, pictures}
@@ -18,14 +18,14 @@ use Rattle.sal_sender.specs.Sound.{AreChained}
 use Rattle.sal_sender.proofs.Thread.{ArePicturesOf, thread_of_legal}
 use Rattle.sal_sender.proofs.Sound.{chained_of_legal}
 use Rattle.sal_world.specs.Promises.{IsSession, HasSize}
-use Rattle.sal_world.proofs.Framed.{AreMade, made_of_legal, counted}
+use Rattle.sal_world.proofs.Framed.{AreMade, made_of_legal, limited}
 use Rattle.sal_world.proofs.Numbers.{IsSent, IsPiece, sent_number, sent_piece, longer_thread}
 use Rattle.sal_world.proofs.Cut.{piece_some, piece_short, piece_whole}
 use Rattle.sal_world.proofs.ListLemmas.{some_same}
 
 -- eight bytes and eight zeros are sent whole
-pub name_sent : (digest : List ℕ) → length digest ≡ 32 → IsSentName (name_of digest)
-unfolding name_text
+pub name_sent : (digest : List ℕ) → length digest ≡ 32 → IsWireName (name_of digest)
+unfolding name_bytes
 name_sent [] e = absurd (omega arith)
 name_sent (a ∷ []) e = absurd (omega arith)
 name_sent (a ∷ b ∷ []) e = absurd (omega arith)
@@ -49,7 +49,7 @@ module _ {S : Type 0} (codec : Coding S) (session : Session) where
 
   pub given_of_legal : IsLawful codec → IsSession session → (past : Past) → IsLegal codec session past → Each (HasSize session) (pictures past) → IsGiven (pictures past) (choices past)
   given_of_legal law ok past legal sizes =
-      let c = counted codec session past legal in
+      let c = limited codec session past legal in
       record {
         law = law;
         session_is = ok;
@@ -71,36 +71,36 @@ module _ {S : Type 0} (codec : Coding S) (session : Session) where
       let more : length (one_thread codec session shot older) ≤ 4096 * length older = thread_long shot older all.1 in
       let long = longer_thread codec session shot choice older in
       let same : made codec shot older choice ≡ record { bytes = all.0.encoded.bytes; target = all.0.encoded.target; recon = all.0.encoded.recon } = ap (λ x. made_of (state codec shot older choice.source) (picture_at shot choice.picture) x) all.0.encoded.is in
-      let count : count_of (made codec shot older choice).bytes ≡ count_of all.0.encoded.bytes = ap (λ (m : Made S). count_of m.bytes) same in
-      let few : count_of all.0.encoded.bytes ≤ 4096 = all.0.encoded.few in
+      let count : fragment_count (made codec shot older choice).bytes ≡ fragment_count all.0.encoded.bytes = ap (λ (m : Made S). fragment_count m.bytes) same in
+      let few : fragment_count all.0.encoded.bytes ≤ 4096 = all.0.encoded.few in
       omega arith
 
   pub serial_fits : (shot : List Picture) (chosen : List Choice) → IsGiven shot chosen → length (one_thread codec session shot chosen) < 2 ^ 32
   serial_fits shot chosen g = let l = thread_long shot chosen g.all_made in let few : length chosen ≤ 1048575 = g.few in omega arith
 
-  name_is_sent : IsLawful codec → (s : S) (name : List ℕ) → name ≡ name_in codec s → IsSentName name
-  name_is_sent law s name e = subst IsSentName (sym e) (name_sent (codec.digest s) (law.digest_size s))
+  name_is_sent : IsLawful codec → (s : S) (name : List ℕ) → name ≡ name_in codec s → IsWireName name
+  name_is_sent law s name e = subst IsWireName (sym e) (name_sent (codec.digest s) (law.digest_size s))
 
   -- each fragment that was sent has its number's choice and frame
-  pub record IsPart (shot : List Picture) (chosen : List Choice) (e : Entry) : Type 0 where
+  pub record IsPart (shot : List Picture) (chosen : List Choice) (e : FragmentFields) : Type 0 where
     pub piece : IsPiece codec session shot chosen e
     pub sent : IsSent codec session shot chosen e.number
     pub choice_is : piece.choice ≡ sent.choice
     pub made_is : piece.made ≡ sent.made
 
-  pub part_of : (shot : List Picture) (chosen : List Choice) → IsGiven shot chosen → (e : Entry) → Has (one_thread codec session shot chosen) e → IsPart shot chosen e
+  pub part_of : (shot : List Picture) (chosen : List Choice) → IsGiven shot chosen → (e : FragmentFields) → Has (one_thread codec session shot chosen) e → IsPart shot chosen e
   part_of shot chosen g e has =
       let p : IsPiece codec session shot chosen e = sent_piece codec session shot chosen g.chained e has in
       let s : IsSent codec session shot chosen e.number = number_sent shot chosen g e.number p.some p.among in
       record { piece = p; sent = s; choice_is = some_same p.choice s.choice (sym p.found ∙ s.found); made_is = some_same p.made s.made (sym p.is_made ∙ s.is_made) }
 
-  part_fits : (shot : List Picture) (chosen : List Choice) → IsGiven shot chosen → (e : Entry) → IsPart shot chosen e → Fits e
+  part_fits : (shot : List Picture) (chosen : List Choice) → IsGiven shot chosen → (e : FragmentFields) → IsPart shot chosen e → FitsFragment e
   part_fits shot chosen g e p =
       let few : length chosen ≤ 1048575 = g.few in
       let low : e.number ≤ length chosen = p.piece.among in
       let floor : e.floor ≡ p.sent.choice.floor = p.piece.floor ∙ ap (λ (c : Choice). c.floor) p.choice_is in
-      let count : e.count ≡ count_of p.sent.made.bytes = p.piece.count ∙ ap (λ (m : Made S). count_of m.bytes) p.made_is in
-      let some : count_of p.sent.made.bytes ≤ 4096 = p.sent.few in
+      let count : e.count ≡ fragment_count p.sent.made.bytes = p.piece.count ∙ ap (λ (m : Made S). fragment_count m.bytes) p.made_is in
+      let some : fragment_count p.sent.made.bytes ≤ 4096 = p.sent.few in
       let sides = g.session_is.head.sides in
       record {
         session = omega (arith, p.piece.own, g.session_is.number);
@@ -116,17 +116,17 @@ module _ {S : Type 0} (codec : Coding S) (session : Session) where
         seconds = subst (λ (r : ℕ × ℕ). r.1 < 2 ^ 32) (sym p.piece.rate) g.session_is.seconds;
       }
 
-  part_is : (shot : List Picture) (chosen : List Choice) → IsGiven shot chosen → (e : Entry) → IsPart shot chosen e → IsFragment e
+  part_is : (shot : List Picture) (chosen : List Choice) → IsGiven shot chosen → (e : FragmentFields) → IsPart shot chosen e → IsFragment e
   part_is shot chosen g e p =
       let few : length chosen ≤ 1048575 = g.few in
       let low : e.number ≤ length chosen = p.piece.among in
       let floor : e.floor ≡ p.sent.choice.floor = p.piece.floor ∙ ap (λ (c : Choice). c.floor) p.choice_is in
       let m : List ℕ = p.sent.made.bytes in
-      let count : e.count ≡ count_of m = p.piece.count ∙ ap (λ (x : Made S). count_of x.bytes) p.made_is in
-      let bytes : e.bytes ≡ piece m e.index = p.piece.bytes ∙ ap (λ (x : Made S). piece x.bytes e.index) p.made_is in
-      let long : length e.bytes ≡ length (piece m e.index) = ap (λ (x : List ℕ). length x) bytes in
-      let below : e.index < count_of m = omega (arith, p.piece.index, count) in
-      let some : count_of m ≤ 4096 = p.sent.few in
+      let count : e.count ≡ fragment_count m = p.piece.count ∙ ap (λ (x : Made S). fragment_count x.bytes) p.made_is in
+      let bytes : e.bytes ≡ fragment_data m e.index = p.piece.bytes ∙ ap (λ (x : Made S). fragment_data x.bytes e.index) p.made_is in
+      let long : length e.bytes ≡ length (fragment_data m e.index) = ap (λ (x : List ℕ). length x) bytes in
+      let below : e.index < fragment_count m = omega (arith, p.piece.index, count) in
+      let some : fragment_count m ≤ 4096 = p.sent.few in
       let filled : 0 < length m = p.sent.frame.some in
       let sides = g.session_is.head.sides in
       record {
@@ -153,11 +153,11 @@ module _ {S : Type 0} (codec : Coding S) (session : Session) where
       }
 
   -- a fragment that was sent is read as it was
-  pub came_text : (shot : List Picture) (chosen : List Choice) → IsGiven shot chosen → (e : Entry) → IsPart shot chosen e → came (text e) ≡ Ok (Part e)
+  pub came_text : (shot : List Picture) (chosen : List Choice) → IsGiven shot chosen → (e : FragmentFields) → IsPart shot chosen e → parsed (fragment_bytes e) ≡ Ok (FragmentMessage e)
   came_text shot chosen g e p = fragment_again e (part_fits shot chosen g e p) (part_is shot chosen g e p)
 
   -- its number stands at most 15 above its floor
-  pub part_near : (shot : List Picture) (chosen : List Choice) (e : Entry) → IsPart shot chosen e → e.number ≤ e.floor + 15
+  pub part_near : (shot : List Picture) (chosen : List Choice) (e : FragmentFields) → IsPart shot chosen e → e.number ≤ e.floor + 15
   part_near shot chosen e p =
       let floor : e.floor ≡ p.sent.choice.floor = p.piece.floor ∙ ap (λ (c : Choice). c.floor) p.choice_is in
       omega (arith, p.sent.window)

@@ -5,9 +5,9 @@ use Rattle.sal_base.specs.Lists.{Has, Each}
 use Rattle.sal_base.specs.declared.name.Name.{Name}
 use Rattle.sal_base.specs.declared.picture.Picture.{Picture}
 use Rattle.sal_codec.specs.Coding.{Coding}
-use Rattle.sal_wire.specs.Entry.{Entry}
+use Rattle.sal_wire.specs.Fields.{FragmentFields}
 use Rattle.sal_wire.specs.declared.datagram.Ack.{Ack}
-use Rattle.sal_chain.specs.declared.kept.Kept.{Kept}
+use Rattle.sal_chain.specs.declared.stored_state.StoredState.{StoredState}
 use Rattle.sal_sender.specs.declared.choice.Choice.{Choice}
 use Rattle.sal_sender.specs.Past.{Past, choices, pictures, tip}
 use Rattle.sal_sender.specs.Chain.{name_in, target_of, made_at, state}
@@ -20,9 +20,9 @@ use Rattle.sal_sender.proofs.Sound.{tip_is}
 use Rattle.sal_receiver.specs.Past.{Call, Deliver, TakeReady, Decoding, taken, shown}
 use Rattle.sal_receiver.specs.Past.{floor as receiver_floor}
 use Rattle.sal_receiver.specs.Held.{decoded}
-use Rattle.sal_world.specs.World.{World, acks_of}
+use Rattle.sal_world.specs.World.{WorldPast, acks_of}
 use Rattle.sal_world.specs.Promises.{choice_at, IsDecoding, HasSize, IsHeardOrOldIn}
-use Rattle.sal_world.specs.Invariant.{Invariant, fragments, IsOfSent, IsOfNumber, IsFrameOf, IsNamed, IsOwnAck, WasAcked}
+use Rattle.sal_world.specs.Invariant.{Invariant, fragments, IsOfSentFragment, IsStateOfNumber, IsFrameOfNumber, NamesItsState, IsAckOfSent, WasAcked}
 use Rattle.sal_world.proofs.Numbers.{choice_older, older_source, longer_thread}
 use Rattle.sal_world.proofs.ListLemmas.{each_map}
 use Rattle.sal_world.proofs.Windows.{window_of, behind_of}
@@ -42,7 +42,7 @@ module _ {S : Type 0} (codec : Coding S) (session : Session) where
     pub longer : length chosen ≤ length more
     pub choice : (n : ℕ) → n ≤ length chosen → choice_at more n ≡ choice_at chosen n
     pub made : (n : ℕ) → n ≤ length chosen → made_at codec later more n ≡ made_at codec shot chosen n
-    pub thread : (e : Entry) → Has (one_thread codec session shot chosen) e → Has (one_thread codec session later more) e
+    pub thread : (e : FragmentFields) → Has (one_thread codec session shot chosen) e → Has (one_thread codec session later more) e
     pub thread_longer : length (one_thread codec session shot chosen) ≤ length (one_thread codec session later more)
 
   pub extends_pictures : (shot more : List Picture) (chosen : List Choice) → ArePicturesOf (length shot) chosen → Extends shot chosen (shot ++ more) chosen
@@ -53,7 +53,7 @@ module _ {S : Type 0} (codec : Coding S) (session : Session) where
         choice = λ n low. refl;
         made = λ n low. made_before codec shot more chosen n of;
         thread = λ e has. subst (λ es. Has es e) (sym same) has;
-        thread_longer = (let l : length (one_thread codec session (shot ++ more) chosen) ≡ length (one_thread codec session shot chosen) = ap (λ (es : List Entry). length es) same in omega arith);
+        thread_longer = (let l : length (one_thread codec session (shot ++ more) chosen) ≡ length (one_thread codec session shot chosen) = ap (λ (es : List FragmentFields). length es) same in omega arith);
       }
 
   pub extends_choice : (shot : List Picture) (choice : Choice) (older : List Choice) → AreChained (choice ∷ older) → Extends shot older shot (choice ∷ older)
@@ -69,18 +69,18 @@ module _ {S : Type 0} (codec : Coding S) (session : Session) where
   extends_state shot chosen later more n x low = ap (target_of codec) (x.made n low)
 
   -- the world after a call of the sender
-  abbrev pub sends : World S → Past → World S
+  abbrev pub sends : WorldPast S → Past → WorldPast S
   sends w past = record w { sender = past }
 
-  abbrev pub Grows : World S → Past → Type 0
+  abbrev pub Grows : WorldPast S → Past → Type 0
   Grows w past = Extends (pictures w.sender) (choices w.sender) (pictures past) (choices past)
 
-  grown_sent : (w : World S) (past : Past) → Grows w past → (call : Call S) → IsOfSent codec session w call → IsOfSent codec session (sends w past) call
+  grown_sent : (w : WorldPast S) (past : Past) → Grows w past → (call : Call S) → IsOfSentFragment codec session w.sender call → IsOfSentFragment codec session past call
   grown_sent w past x (Deliver came moment answer) of = (of.0, x.thread of.0 of.1, of.2, of.3)
   grown_sent w past x (TakeReady answer) of = tt
   grown_sent w past x (Decoding n outcome answer) of = tt
 
-  grown_number : (w : World S) (past : Past) → AreChained (choices w.sender) → AreChained (choices past) → Grows w past → (k : Kept S) → IsOfNumber codec session w k → IsOfNumber codec session (sends w past) k
+  grown_number : (w : WorldPast S) (past : Past) → AreChained (choices w.sender) → AreChained (choices past) → Grows w past → (k : StoredState S) → IsStateOfNumber codec session w.sender w.receiver k → IsStateOfNumber codec session past w.receiver k
   grown_number w past old new x k is =
       let a : tip w.sender ≡ length (choices w.sender) = tip_is (choices w.sender) old in
       let b : tip past ≡ length (choices past) = tip_is (choices past) new in
@@ -92,7 +92,7 @@ module _ {S : Type 0} (codec : Coding S) (session : Session) where
         name = is.name;
       }
 
-  grown_seen : (w : World S) (past : Past) → AreChained (choices w.sender) → Grows w past → (s : ℕ × Picture) → IsDecoding codec w s.0 s.1 → IsDecoding codec (sends w past) s.0 s.1
+  grown_seen : (w : WorldPast S) (past : Past) → AreChained (choices w.sender) → Grows w past → (s : ℕ × Picture) → IsDecoding codec w.sender s.0 s.1 → IsDecoding codec past s.0 s.1
   grown_seen w past old x s is =
       let low : s.0 ≤ length (choices w.sender) = number_low (choices w.sender) s.0 is.choice old is.chosen in
       let source : is.choice.source ≤ length (choices w.sender) = older_source (choices w.sender) s.0 is.choice old is.chosen in
@@ -107,7 +107,7 @@ module _ {S : Type 0} (codec : Coding S) (session : Session) where
         same_picture = is.same_picture;
       }
 
-  grown_frame : (w : World S) (past : Past) → AreChained (choices w.sender) → Grows w past → (n : ℕ) (source : S) → IsFrameOf codec session w n source → IsFrameOf codec session (sends w past) n source
+  grown_frame : (w : WorldPast S) (past : Past) → AreChained (choices w.sender) → Grows w past → (n : ℕ) (source : S) → IsFrameOfNumber codec session w.sender w.receiver n source → IsFrameOfNumber codec session past w.receiver n source
   grown_frame w past old x n source is =
       let low : n ≤ length (choices w.sender) = number_low (choices w.sender) n is.choice old is.chosen in
       let from : is.choice.source ≤ length (choices w.sender) = older_source (choices w.sender) n is.choice old is.chosen in
@@ -122,47 +122,48 @@ module _ {S : Type 0} (codec : Coding S) (session : Session) where
         target = is.target;
       }
 
-  grown_named : (w : World S) (past : Past) → AreChained (choices w.sender) → AreChained (choices past) → Grows w past → (h : ℕ × Name) → IsNamed codec session w h → IsNamed codec session (sends w past) h
+  grown_named : (w : WorldPast S) (past : Past) → AreChained (choices w.sender) → AreChained (choices past) → Grows w past → (h : ℕ × Name) → NamesItsState codec session w.sender h → NamesItsState codec session past h
   grown_named w past old new x h is =
       let a : tip w.sender ≡ length (choices w.sender) = tip_is (choices w.sender) old in
       let b : tip past ≡ length (choices past) = tip_is (choices past) new in
       let low : h.0 ≤ length (choices w.sender) = omega (arith, is.0) in
       (omega (arith, x.longer), is.1 ∙ ap (name_in codec) (sym (extends_state (pictures w.sender) (choices w.sender) (pictures past) (choices past) h.0 x low)))
 
-  grown_ack : (w : World S) (past : Past) → AreChained (choices w.sender) → AreChained (choices past) → Grows w past → (ack : Ack) → IsOwnAck codec session w ack → IsOwnAck codec session (sends w past) ack
+  grown_ack : (w : WorldPast S) (past : Past) → AreChained (choices w.sender) → AreChained (choices past) → Grows w past → (ack : Ack) → IsAckOfSent codec session w.sender ack → IsAckOfSent codec session past ack
   grown_ack w past old new x ack is = record {
     own = is.own;
     sent = omega (arith, is.sent, x.thread_longer);
     fits = is.fits;
     is = is.is;
-    states = each_map (IsNamed codec session w) (IsNamed codec session (sends w past)) (λ h named. grown_named w past old new x h named) ack.held is.states;
+    states = each_map (NamesItsState codec session w.sender) (NamesItsState codec session past) (λ h named. grown_named w past old new x h named) ack.held is.states;
   }
 
-  grown_floor : (w : World S) (past : Past) (floor : ℕ) → Grows w past → (floor ≡ 1) ⊎ ((e : Entry) × Has (fragments codec session w) e × (e.floor ≡ floor)) → (floor ≡ 1) ⊎ ((e : Entry) × Has (fragments codec session (sends w past)) e × (e.floor ≡ floor))
+  grown_floor : (w : WorldPast S) (past : Past) (floor : ℕ) → Grows w past → (floor ≡ 1) ⊎ ((e : FragmentFields) × Has (fragments codec session w.sender) e × (e.floor ≡ floor)) → (floor ≡ 1) ⊎ ((e : FragmentFields) × Has (fragments codec session past) e × (e.floor ≡ floor))
   grown_floor w past floor x (inl e) = inl e
   grown_floor w past floor x (inr of) = inr (of.0, x.thread of.0 of.1, of.2)
 
   -- a call of the sender keeps what stands of the receiver
-  pub grown : (w : World S) (past : Past) → Grows w past → IsSound past → Each (HasSize session) (pictures past) → Each IsHeardOrOldIn past → Each (WasAcked codec session w) (acknowledged past) → Invariant codec session w → Invariant codec session (sends w past)
+  pub grown : (w : WorldPast S) (past : Past) → Grows w past → IsSound past → Each (HasSize session) (pictures past) → Each IsHeardOrOldIn past → Each (WasAcked codec session w.receiver) (acknowledged past) → Invariant codec session w → Invariant codec session (sends w past)
   grown w past x sound sizes heard acked inv =
-      let old : AreChained (choices w.sender) = inv.sender.chained in
+      let old : AreChained (choices w.sender) = inv.sender.sound.chained in
       let new : AreChained (choices past) = sound.chained in
-      let v : World S = sends w past in
-      let bound = grown_floor w past (receiver_floor w.receiver) x inv.floor in
+      let bound = grown_floor w past (receiver_floor w.receiver) x inv.receiver.floor in
       record {
-        window = window_of past new;
-        sender = sound;
-        sizes = sizes;
-        delivered = each_map (IsOfSent codec session w) (IsOfSent codec session v) (grown_sent w past x) w.receiver inv.delivered;
-        heard = heard;
-        floor = bound;
-        behind = behind_of codec session past (receiver_floor w.receiver) new bound;
-        parts = each_map (Has (fragments codec session w)) (Has (fragments codec session v)) x.thread (taken w.receiver) inv.parts;
-        held = each_map (IsOfNumber codec session w) (IsOfNumber codec session v) (grown_number w past old new x) (decoded codec w.receiver) inv.held;
-        fit = inv.fit;
-        seen = each_map (λ s. IsDecoding codec w s.0 s.1) (λ s. IsDecoding codec v s.0 s.1) (grown_seen w past old x) (shown w.receiver) inv.seen;
-        frames = λ n source is. grown_frame w past old x n source (inv.frames n source is);
-        acks = each_map (IsOwnAck codec session w) (IsOwnAck codec session v) (grown_ack w past old new x) (acks_of w.receiver) inv.acks;
-        named = inv.named;
-        acked = acked;
+        sender = record { window = window_of past new; sound = sound; sizes = sizes };
+        receiver = record {
+          delivered = each_map (IsOfSentFragment codec session w.sender) (IsOfSentFragment codec session past) (grown_sent w past x) w.receiver inv.receiver.delivered;
+          floor = bound;
+          behind = behind_of codec session past (receiver_floor w.receiver) new bound;
+          parts = each_map (Has (fragments codec session w.sender)) (Has (fragments codec session past)) x.thread (taken w.receiver) inv.receiver.parts;
+          held = each_map (IsStateOfNumber codec session w.sender w.receiver) (IsStateOfNumber codec session past w.receiver) (grown_number w past old new x) (decoded codec w.receiver) inv.receiver.held;
+          fit = inv.receiver.fit;
+          seen = each_map (λ s. IsDecoding codec w.sender s.0 s.1) (λ s. IsDecoding codec past s.0 s.1) (grown_seen w past old x) (shown w.receiver) inv.receiver.seen;
+          frames = λ n source is. grown_frame w past old x n source (inv.receiver.frames n source is);
+        };
+        acks = record {
+          heard = heard;
+          acks = each_map (IsAckOfSent codec session w.sender) (IsAckOfSent codec session past) (grown_ack w past old new x) (acks_of w.receiver) inv.acks.acks;
+          named = inv.acks.named;
+          acked = acked;
+        };
       }

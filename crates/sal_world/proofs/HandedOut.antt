@@ -3,13 +3,13 @@ use Rattle.std.proofs.Common.{◌≡◌, ◌≢◌, ℕ, ◌<◌, ◌≤◌, min
 use Rattle.std.proofs.lemmas.Bool.{eqb-true, eq-eqb, and_parts, cases_lt}
 use Rattle.sal_base.specs.Lists.{Each}
 use Rattle.sal_codec.specs.Coding.{Coding}
-use Rattle.sal_chain.specs.declared.kept.Kept.{Kept}
+use Rattle.sal_chain.specs.declared.stored_state.StoredState.{StoredState}
 use Rattle.sal_reasm.specs.Offer.{or_else}
 use Rattle.sal_receiver.specs.declared.answers.Done.{Done}
 use Rattle.sal_receiver.specs.declared.answers.Done.TheVariants.{Stranger, Returned, Unfit, Misnamed, Older, Show}
 use Rattle.sal_receiver.specs.Past.{Call, Deliver, TakeReady, Decoding, Sound, Faulty, NoMemory, taken}
 use Rattle.sal_receiver.specs.Held.{decoded}
-use Rattle.sal_receiver.specs.Ready.{least, ready, source_now, waits, is_out, is_decided, decides, take_answer}
+use Rattle.sal_receiver.specs.Ready.{least, ready_source, source_now, is_ready, is_out, is_decided, decides, take_answer}
 use Rattle.sal_receiver.specs.Answers.{outcome_answer}
 use Rattle.sal_receiver.specs.Promises.{IsLegal}
 use Rattle.sal_world.proofs.ListLemmas.{each_map, some_same}
@@ -59,24 +59,24 @@ module _ {S : Type 0} (codec : Coding S) where
   -- a number that was ready and isn't decided
   pub record IsOpen (past : List (Call S)) (n : ℕ) : Type 0 where
     pub undecided : is_decided past n ≡ false
-    pub some : is_some (ready codec past n) ≡ true
+    pub some : is_some (ready_source codec past n) ≡ true
 
   open_later : (call : Call S) (past : List (Call S)) (n : ℕ) → decides n call ≡ false → IsOpen past n → IsOpen (call ∷ past) n
-  unfolding ready
+  unfolding ready_source
   open_later call past n is open_is = record {
     undecided = rw is open_is.undecided;
-    some = some_else (ready codec past n) (source_now codec (call ∷ past) n) open_is.some;
+    some = some_else (ready_source codec past n) (source_now codec (call ∷ past) n) open_is.some;
   }
 
-  waits_open : (past : List (Call S)) (n : ℕ) → waits codec past n ≡ true → IsOpen past n
+  waits_open : (past : List (Call S)) (n : ℕ) → is_ready codec past n ≡ true → IsOpen past n
   waits_open past n h =
-      let a = and_parts (is_some (ready codec past n) && not (is_out past n)) (not (is_decided past n)) h in
-      let b = and_parts (is_some (ready codec past n)) (not (is_out past n)) a.0 in
+      let a = and_parts (is_some (ready_source codec past n) && not (is_out past n)) (not (is_decided past n)) h in
+      let b = and_parts (is_some (ready_source codec past n)) (not (is_out past n)) a.0 in
       record { undecided = not_true (is_decided past n) a.1; some = b.0 }
 
   took_open : (past : List (Call S)) (m n : ℕ) → Some m ≡ take_answer codec past → (is_out past n ≡ true → IsOpen past n) → (eqb m n || is_out past n) ≡ true → IsOpen past n
   took_open past m n answer more h = elim (true_or (eqb m n) (is_out past n) h) [
-    | inl a ↦ waits_open past n (subst (λ k. waits codec past k ≡ true) (eqb-true _ _ a) (least_meets (λ k. waits codec past k ≡ true) (filter (waits codec past) (map (λ e. e.number) (taken past))) m (filter_meets (waits codec past) (map (λ e. e.number) (taken past))) (sym answer)))
+    | inl a ↦ waits_open past n (subst (λ k. is_ready codec past k ≡ true) (eqb-true _ _ a) (least_meets (λ k. is_ready codec past k ≡ true) (filter (is_ready codec past) (map (λ e. e.number) (taken past))) m (filter_meets (is_ready codec past) (map (λ e. e.number) (taken past))) (sym answer)))
     | inr b ↦ more b
   ]
 
@@ -100,13 +100,13 @@ module _ {S : Type 0} (codec : Coding S) where
 
   -- ---- decoded numbers
 
-  still_decided : (call : Call S) (past : List (Call S)) (k : Kept S) → is_decided past k.number ≡ true → is_decided (call ∷ past) k.number ≡ true
+  still_decided : (call : Call S) (past : List (Call S)) (k : StoredState S) → is_decided past k.number ≡ true → is_decided (call ∷ past) k.number ≡ true
   still_decided call past k h = either_true (decides k.number call) (is_decided past k.number) h
 
-  abbrev AreDecided : List (Call S) → List (Kept S) → Type 0
+  abbrev AreDecided : List (Call S) → List (StoredState S) → Type 0
   AreDecided past kept = Each (λ k. is_decided past k.number ≡ true) kept
 
-  later_decided : (call : Call S) (past : List (Call S)) (kept : List (Kept S)) → AreDecided past kept → AreDecided (call ∷ past) kept
+  later_decided : (call : Call S) (past : List (Call S)) (kept : List (StoredState S)) → AreDecided past kept → AreDecided (call ∷ past) kept
   later_decided call past kept each = each_map (λ k. is_decided past k.number ≡ true) (λ k. is_decided (call ∷ past) k.number ≡ true) (still_decided call past) kept each
 
   first_true : (a b : Bool) → a ≡ true → (a || b) ≡ true
@@ -134,7 +134,7 @@ module _ {S : Type 0} (codec : Coding S) where
   answered_out false answer other never h = absurd (never h)
 
   pub not_in : (past : List (Call S)) (n : ℕ) → IsLegal codec past → is_out past n ≡ true → NotIn n (decoded codec past)
-  not_in past n legal out = each_map (λ k. is_decided past k.number ≡ true) (λ k. k.number ≢ n) (λ (k : Kept S) (is : is_decided past k.number ≡ true) (e : k.number ≡ n). clash_of_bools (is_decided past n) (subst (λ m. is_decided past m ≡ true) e is) (out_open past n legal out).undecided) (decoded codec past) (decoded_decided past)
+  not_in past n legal out = each_map (λ k. is_decided past k.number ≡ true) (λ k. k.number ≢ n) (λ (k : StoredState S) (is : is_decided past k.number ≡ true) (e : k.number ≡ n). clash_of_bools (is_decided past n) (subst (λ m. is_decided past m ≡ true) e is) (out_open past n legal out).undecided) (decoded codec past) (decoded_decided past)
 
   pub distinct : (past : List (Call S)) → IsLegal codec past → Distinct (decoded codec past)
   distinct [] legal = tt

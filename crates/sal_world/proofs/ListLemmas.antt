@@ -4,7 +4,7 @@ use Rattle.std.specs.List.{filter_map, cons_option}
 use Rattle.std.specs.Option.{option_map}
 use Rattle.std.specs.Prelude.{slice_get}
 use Rattle.sal_base.specs.Lists.{Has, Each}
-use Rattle.sal_wire.specs.Pieces.{below}
+use Rattle.sal_wire.specs.Fragmentation.{below}
 
 pub some_same : {X : Type 0} (a b : X) → Some a ≡ Some b → a ≡ b
 some_same a b e = cc

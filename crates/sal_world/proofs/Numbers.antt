@@ -7,8 +7,8 @@ use Rattle.sal_base.specs.declared.picture.Picture.{Picture}
 use Rattle.sal_base.specs.declared.coding.Kind.{Kind}
 use Rattle.sal_base.specs.declared.coding.Kind.TheVariants.{Key, Inter}
 use Rattle.sal_codec.specs.Coding.{Coding, Made, made_of, IsFrame, HasSides, IsSound, IsLawful}
-use Rattle.sal_wire.specs.Entry.{Entry}
-use Rattle.sal_wire.specs.Pieces.{count_of, piece, below}
+use Rattle.sal_wire.specs.Fields.{FragmentFields}
+use Rattle.sal_wire.specs.Fragmentation.{fragment_count, fragment_data, below}
 use Rattle.sal_sender.specs.declared.choice.Choice.{Choice}
 use Rattle.sal_sender.specs.Past.{floor_of}
 use Rattle.sal_sender.specs.Chain.{name_in, picture_at, target_of, made_at, state, made}
@@ -97,7 +97,7 @@ module _ {S : Type 0} (codec : Coding S) (session : Session) where
     pub window : n ≤ choice.floor + 15
     pub made : Made S
     pub is_made : made_at codec shot chosen n ≡ Some made
-    pub few : count_of made.bytes ≤ 4096
+    pub few : fragment_count made.bytes ≤ 4096
     pub frame : IsFrame made.bytes
     pub shown : Bool
     pub decodes : codec.decode (state codec shot chosen choice.source) made.bytes ≡ Ok (record { state = made.target; picture = made.recon; shown = shown })
@@ -134,8 +134,8 @@ module _ {S : Type 0} (codec : Coding S) (session : Session) where
   takes_size s p size takes = subst (λ w. codec.takes s w p.height) (sym size.width) (subst (λ h. codec.takes s session.head.width h) (sym size.height) takes)
 
   -- what is made of a choice whose source is known
-  made_sound : IsLawful codec → (s : S) (p : Picture) (q : ℕ) (kind : Kind) (e : IsEncoded (codec.encode s p q kind)) → HasSize session p → q ≤ 127 → (kind ≡ Inter → codec.takes s session.head.width session.head.height) → IsSound codec s p e.bytes e.target e.recon
-  made_sound law s p q kind e size low inter = law.sound s p q kind e.bytes e.target e.recon (record { picture = size.whole; quantiser = low; size = λ is. takes_size s p size (inter is) }) e.is
+  made_sound : IsLawful codec → (s : S) (p : Picture) (q : ℕ) (kind : Kind) (count : ℕ) (e : IsEncoded (codec.encode s p q kind) count) → HasSize session p → q ≤ 127 → (kind ≡ Inter → codec.takes s session.head.width session.head.height) → IsSound codec s p e.bytes e.target e.recon
+  made_sound law s p q kind count e size low inter = law.sound s p q kind e.bytes e.target e.recon (record { picture = size.whole; quantiser = low; size = λ is. takes_size s p size (inter is) }) e.is
 
   newest_sent : IsLawful codec → (shot : List Picture) (choice : Choice) (older : List Choice) (n : ℕ) → Each (HasSize session) shot → AreChained (choice ∷ older) → AreMade codec shot (choice ∷ older) → ArePicturesOf (length shot) (choice ∷ older) → ((m : ℕ) → 1 ≤ m → m ≤ length older → IsSent shot older m) → n ≡ choice.number → IsSent shot (choice ∷ older) n
   newest_sent law shot choice older n sizes chained made of more e =
@@ -143,7 +143,7 @@ module _ {S : Type 0} (codec : Coding S) (session : Session) where
       let p : Picture = picture_at shot choice.picture in
       let size : HasSize session p = picture_has (HasSize session) shot choice.picture of.0 of.1 sizes in
       let enc = made.0.encoded in
-      let sound : IsSound codec s p enc.bytes enc.target enc.recon = made_sound law s p choice.q choice.kind enc size made.0.q
+      let sound : IsSound codec s p enc.bytes enc.target enc.recon = made_sound law s p choice.q choice.kind choice.count enc size made.0.q
       (λ (is : choice.kind ≡ Inter).
       let low : 1 ≤ choice.source = inter_some choice.source choice.kind made.0.kind is in
       let there : IsSent shot older choice.source = more choice.source low chained.0.source in
@@ -182,7 +182,7 @@ module _ {S : Type 0} (codec : Coding S) (session : Session) where
   -- ---- fragments
 
   -- a fragment that was sent is a piece of the frame of its number
-  pub record IsPiece (shot : List Picture) (chosen : List Choice) (e : Entry) : Type 0 where
+  pub record IsPiece (shot : List Picture) (chosen : List Choice) (e : FragmentFields) : Type 0 where
     pub some : 1 ≤ e.number
     pub among : e.number ≤ length chosen
     pub choice : Choice
@@ -192,9 +192,9 @@ module _ {S : Type 0} (codec : Coding S) (session : Session) where
     pub source : e.source ≡ name_in codec (state codec shot chosen choice.source)
     pub target : e.target ≡ name_in codec made.target
     pub floor : e.floor ≡ choice.floor
-    pub count : e.count ≡ count_of made.bytes
+    pub count : e.count ≡ fragment_count made.bytes
     pub index : e.index < e.count
-    pub bytes : e.bytes ≡ piece made.bytes e.index
+    pub bytes : e.bytes ≡ fragment_data made.bytes e.index
     pub own : e.session ≡ session.number
     pub width : e.width ≡ session.head.width
     pub height : e.height ≡ session.head.height
@@ -203,14 +203,14 @@ module _ {S : Type 0} (codec : Coding S) (session : Session) where
     pub serial_below : e.serial ≤ length (one_thread codec session shot chosen)
     pub pause : e.pause ≤ 4294967295
 
-  pub longer_thread : (shot : List Picture) (choice : Choice) (older : List Choice) → length (one_thread codec session shot (choice ∷ older)) ≡ length (one_thread codec session shot older) + count_of (made codec shot older choice).bytes
+  pub longer_thread : (shot : List Picture) (choice : Choice) (older : List Choice) → length (one_thread codec session shot (choice ∷ older)) ≡ length (one_thread codec session shot older) + fragment_count (made codec shot older choice).bytes
   unfolding one_thread
   longer_thread shot choice older =
-      let before : List Entry = one_thread codec session shot older in
+      let before : List FragmentFields = one_thread codec session shot older in
       let own = length-append before (burst_after codec session shot older choice (length before)) in
-      own ∙ ap (λ (n : ℕ). length before + n) (length-map (below (count_of (made codec shot older choice).bytes)) _ ∙ length_below _)
+      own ∙ ap (λ (n : ℕ). length before + n) (length-map (below (fragment_count (made codec shot older choice).bytes)) _ ∙ length_below _)
 
-  older_piece : (shot : List Picture) (choice : Choice) (older : List Choice) (e : Entry) → AreChained (choice ∷ older) → IsPiece shot older e → IsPiece shot (choice ∷ older) e
+  older_piece : (shot : List Picture) (choice : Choice) (older : List Choice) (e : FragmentFields) → AreChained (choice ∷ older) → IsPiece shot older e → IsPiece shot (choice ∷ older) e
   older_piece shot choice older e chained is = record {
     some = is.some;
     among = omega (arith, is.among);
@@ -241,7 +241,7 @@ module _ {S : Type 0} (codec : Coding S) (session : Session) where
   pause_low [] choice = omega arith
   pause_low (before ∷ older) choice = omega arith
 
-  newest_piece : (shot : List Picture) (choice : Choice) (older : List Choice) (k : ℕ) → AreChained (choice ∷ older) → k < count_of (made codec shot older choice).bytes → IsPiece shot (choice ∷ older) (fragment codec session (state codec shot older choice.source) (pause_of older choice) choice (made codec shot older choice) (length (one_thread codec session shot older)) k)
+  newest_piece : (shot : List Picture) (choice : Choice) (older : List Choice) (k : ℕ) → AreChained (choice ∷ older) → k < fragment_count (made codec shot older choice).bytes → IsPiece shot (choice ∷ older) (fragment codec session (state codec shot older choice.source) (pause_of older choice) choice (made codec shot older choice) (length (one_thread codec session shot older)) k)
   newest_piece shot choice older k chained low = record {
     some = omega (arith, chained.0.number);
     among = omega (arith, chained.0.number);
@@ -265,7 +265,7 @@ module _ {S : Type 0} (codec : Coding S) (session : Session) where
   }
 
   -- each fragment that was sent is a piece
-  pub sent_piece : (shot : List Picture) (chosen : List Choice) → AreChained chosen → (e : Entry) → Has (one_thread codec session shot chosen) e → IsPiece shot chosen e
+  pub sent_piece : (shot : List Picture) (chosen : List Choice) → AreChained chosen → (e : FragmentFields) → Has (one_thread codec session shot chosen) e → IsPiece shot chosen e
   unfolding one_thread
   sent_piece shot [] chained e has = absurd has
   sent_piece shot (choice ∷ older) chained e has = elim (has_either (one_thread codec session shot older) (burst_after codec session shot older choice (length (one_thread codec session shot older))) e has) [
@@ -275,5 +275,5 @@ module _ {S : Type 0} (codec : Coding S) (session : Session) where
     where
       burst_piece : Has (burst_after codec session shot older choice (length (one_thread codec session shot older))) e → IsPiece shot (choice ∷ older) e
       burst_piece b =
-          let k = has_mapped (fragment codec session (state codec shot older choice.source) (pause_of older choice) choice (made codec shot older choice) (length (one_thread codec session shot older))) (below (count_of (made codec shot older choice).bytes)) e b in
+          let k = has_mapped (fragment codec session (state codec shot older choice.source) (pause_of older choice) choice (made codec shot older choice) (length (one_thread codec session shot older))) (below (fragment_count (made codec shot older choice).bytes)) e b in
           subst (IsPiece shot (choice ∷ older)) (sym k.2) (newest_piece shot choice older k.0 chained (below_has _ k.0 k.1))

@@ -2,76 +2,76 @@
 use Rattle.std.proofs.Common.{◌≡◌, ◌≢◌, ℕ, ◌-◌, ◌<◌, ◌≤◌, Bool, true, false, cond, List, [], ◌∷◌, length, map, Option, Some, None, refl, arith, ltb, leb}
 use Rattle.std.proofs.lemmas.Bool.{ltb-true, ltb-false, leb-true}
 use Rattle.sal_base.specs.Lists.{Each}
-use Rattle.sal_wire.specs.Spelling.{IsSent, AreRising}
-use Rattle.sal_chain.specs.declared.kept.Kept.{Kept}
-use Rattle.sal_chain.specs.Held.{placed, in_order, from_floor, label}
+use Rattle.sal_wire.specs.Layout.{IsWireName, AreRising}
+use Rattle.sal_chain.specs.declared.stored_state.StoredState.{StoredState}
+use Rattle.sal_chain.specs.Held.{inserted, in_order, not_below, number_and_name}
 use Rattle.sal_budget.specs.declared.gap.Gap.{Gap}
 use Rattle.sal_budget.specs.Gap.{Arrival, average_after, gap_after}
 
 module _ {T : Type 0} where
   -- numbers rise, each above the one before
-  abbrev pub Rises : ℕ → List (Kept T) → Type 0
+  abbrev pub Rises : ℕ → List (StoredState T) → Type 0
   Rises least [] = Unit {0}
   Rises least (k ∷ rest) = (least < k.number) × Rises k.number rest
 
   -- no number stands twice
-  abbrev pub NotIn : ℕ → List (Kept T) → Type 0
+  abbrev pub NotIn : ℕ → List (StoredState T) → Type 0
   NotIn n kept = Each (λ k. k.number ≢ n) kept
 
-  abbrev pub Distinct : List (Kept T) → Type 0
+  abbrev pub Distinct : List (StoredState T) → Type 0
   Distinct [] = Unit {0}
   Distinct (k ∷ kept) = NotIn k.number kept × Distinct kept
 
-  pub rises_lower : (least low : ℕ) (xs : List (Kept T)) → low ≤ least → Rises least xs → Rises low xs
+  pub rises_lower : (least low : ℕ) (xs : List (StoredState T)) → low ≤ least → Rises least xs → Rises low xs
   rises_lower least low [] h r = tt
   rises_lower least low (x ∷ xs) h r = ((let a : least < x.number = r.0 in omega arith), r.1)
 
-  placed_each : (P : Kept T → Type 0) (b : Bool) (k x : Kept T) (xs more : List (Kept T)) → P k → Each P (x ∷ xs) → Each P more → Each P (cond b (k ∷ x ∷ xs) (x ∷ more))
+  placed_each : (P : StoredState T → Type 0) (b : Bool) (k x : StoredState T) (xs more : List (StoredState T)) → P k → Each P (x ∷ xs) → Each P more → Each P (cond b (k ∷ x ∷ xs) (x ∷ more))
   placed_each P true k x xs more own each there = (own, each)
   placed_each P false k x xs more own each there = (each.0, there)
 
-  pub each_placed : (P : Kept T → Type 0) (k : Kept T) (xs : List (Kept T)) → P k → Each P xs → Each P (placed k xs)
+  pub each_placed : (P : StoredState T → Type 0) (k : StoredState T) (xs : List (StoredState T)) → P k → Each P xs → Each P (inserted k xs)
   each_placed P k [] own each = (own, tt)
-  each_placed P k (x ∷ xs) own each = placed_each P (ltb k.number x.number) k x xs (placed k xs) own each (each_placed P k xs own each.1)
+  each_placed P k (x ∷ xs) own each = placed_each P (ltb k.number x.number) k x xs (inserted k xs) own each (each_placed P k xs own each.1)
 
-  pub each_order : (P : Kept T → Type 0) (xs : List (Kept T)) → Each P xs → Each P (in_order xs)
+  pub each_order : (P : StoredState T → Type 0) (xs : List (StoredState T)) → Each P xs → Each P (in_order xs)
   each_order P [] each = tt
   each_order P (k ∷ xs) each = each_placed P k (in_order xs) each.0 (each_order P xs each.1)
 
-  from_each : (P : Kept T → Type 0) (b : Bool) (k : Kept T) (xs : List (Kept T)) → (b ≡ true → P k) → Each P xs → Each P (cond b (k ∷ xs) xs)
+  from_each : (P : StoredState T → Type 0) (b : Bool) (k : StoredState T) (xs : List (StoredState T)) → (b ≡ true → P k) → Each P xs → Each P (cond b (k ∷ xs) xs)
   from_each P true k xs own each = (own refl, each)
   from_each P false k xs own each = each
 
-  pub each_from : (P : Kept T → Type 0) (floor : ℕ) (xs : List (Kept T)) → Each P xs → Each P (from_floor floor xs)
+  pub each_from : (P : StoredState T → Type 0) (floor : ℕ) (xs : List (StoredState T)) → Each P xs → Each P (not_below floor xs)
   each_from P floor [] each = tt
-  each_from P floor (k ∷ xs) each = from_each P (leb floor k.number) k (from_floor floor xs) (λ e. each.0) (each_from P floor xs each.1)
+  each_from P floor (k ∷ xs) each = from_each P (leb floor k.number) k (not_below floor xs) (λ e. each.0) (each_from P floor xs each.1)
 
-  pub from_low : (floor : ℕ) (xs : List (Kept T)) → Each (λ k. floor ≤ k.number) (from_floor floor xs)
+  pub from_low : (floor : ℕ) (xs : List (StoredState T)) → Each (λ k. floor ≤ k.number) (not_below floor xs)
   from_low floor [] = tt
-  from_low floor (k ∷ xs) = from_each (λ k. floor ≤ k.number) (leb floor k.number) k (from_floor floor xs) (λ e. leb-true _ _ e) (from_low floor xs)
+  from_low floor (k ∷ xs) = from_each (λ k. floor ≤ k.number) (leb floor k.number) k (not_below floor xs) (λ e. leb-true _ _ e) (from_low floor xs)
 
-  distinct_step : (b : Bool) (k : Kept T) (xs : List (Kept T)) → NotIn k.number xs → Distinct xs → Distinct (cond b (k ∷ xs) xs)
+  distinct_step : (b : Bool) (k : StoredState T) (xs : List (StoredState T)) → NotIn k.number xs → Distinct xs → Distinct (cond b (k ∷ xs) xs)
   distinct_step true k xs other rest = (other, rest)
   distinct_step false k xs other rest = rest
 
-  pub distinct_from : (floor : ℕ) (xs : List (Kept T)) → Distinct xs → Distinct (from_floor floor xs)
+  pub distinct_from : (floor : ℕ) (xs : List (StoredState T)) → Distinct xs → Distinct (not_below floor xs)
   distinct_from floor [] d = tt
-  distinct_from floor (k ∷ xs) d = distinct_step (leb floor k.number) k (from_floor floor xs) (each_from (λ x. x.number ≢ k.number) floor xs d.0) (distinct_from floor xs d.1)
+  distinct_from floor (k ∷ xs) d = distinct_step (leb floor k.number) k (not_below floor xs) (each_from (λ x. x.number ≢ k.number) floor xs d.0) (distinct_from floor xs d.1)
 
-  rises_step : (b : Bool) (least : ℕ) (k x : Kept T) (xs more : List (Kept T)) → ltb k.number x.number ≡ b → Rises least (x ∷ xs) → least < k.number → x.number ≢ k.number → (x.number < k.number → Rises x.number more) → Rises least (cond b (k ∷ x ∷ xs) (x ∷ more))
+  rises_step : (b : Bool) (least : ℕ) (k x : StoredState T) (xs more : List (StoredState T)) → ltb k.number x.number ≡ b → Rises least (x ∷ xs) → least < k.number → x.number ≢ k.number → (x.number < k.number → Rises x.number more) → Rises least (cond b (k ∷ x ∷ xs) (x ∷ more))
   rises_step true least k x xs more e r low other there = (low, (ltb-true _ _ e, r.1))
   rises_step false least k x xs more e r low other there = (r.0, there (let a : x.number ≤ k.number = ltb-false _ _ e in omega (arith, other)))
 
-  pub rises_placed : (least : ℕ) (k : Kept T) (xs : List (Kept T)) → Rises least xs → least < k.number → NotIn k.number xs → Rises least (placed k xs)
+  pub rises_placed : (least : ℕ) (k : StoredState T) (xs : List (StoredState T)) → Rises least xs → least < k.number → NotIn k.number xs → Rises least (inserted k xs)
   rises_placed least k [] r low other = (low, tt)
-  rises_placed least k (x ∷ xs) r low other = rises_step (ltb k.number x.number) least k x xs (placed k xs) refl r low other.0 (λ less. rises_placed x.number k xs r.1 less other.1)
+  rises_placed least k (x ∷ xs) r low other = rises_step (ltb k.number x.number) least k x xs (inserted k xs) refl r low other.0 (λ less. rises_placed x.number k xs r.1 less other.1)
 
-  pub rises_order : (least : ℕ) (xs : List (Kept T)) → Each (λ k. least < k.number) xs → Distinct xs → Rises least (in_order xs)
+  pub rises_order : (least : ℕ) (xs : List (StoredState T)) → Each (λ k. least < k.number) xs → Distinct xs → Rises least (in_order xs)
   rises_order least [] low d = tt
   rises_order least (k ∷ xs) low d = rises_placed least k (in_order xs) (rises_order least xs low.1 d.1) low.0 (each_order (λ x. x.number ≢ k.number) xs d.0)
 
   -- no more than there are numbers
-  pub few_between : (least top : ℕ) (xs : List (Kept T)) → Rises least xs → Each (λ k. k.number ≤ top) xs → length xs ≤ top - least
+  pub few_between : (least top : ℕ) (xs : List (StoredState T)) → Rises least xs → Each (λ k. k.number ≤ top) xs → length xs ≤ top - least
   few_between least top [] r low = omega arith
   few_between least top (k ∷ xs) r low =
       let more : length xs ≤ top - k.number = few_between k.number top xs r.1 low.1 in
@@ -79,7 +79,7 @@ module _ {T : Type 0} where
       let b : k.number ≤ top = low.0 in
       omega arith
 
-  pub are_rising : (least : ℕ) (xs : List (Kept T)) → Rises least xs → Each (λ k. (k.number ≤ 1048575) × IsSent k.name.0) xs → AreRising least (map label xs)
+  pub are_rising : (least : ℕ) (xs : List (StoredState T)) → Rises least xs → Each (λ k. (k.number ≤ 1048575) × IsWireName k.name.0) xs → AreRising least (map number_and_name xs)
   are_rising least [] r each = tt
   are_rising least (k ∷ xs) r each = (r.0, each.0.0, each.0.1, are_rising k.number xs r.1 each.1)
 

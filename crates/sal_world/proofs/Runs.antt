@@ -2,9 +2,9 @@
 use Rattle.std.proofs.Common.{◌≡◌, ℕ, List, [], ◌∷◌, map, reverse, Option, Some, None, refl, length, Bool, true, false, ◌++◌}
 use Rattle.std.specs.Prelude.{filter_map, replicate, slice_get}
 use Rattle.sal_base.specs.declared.picture.Picture.{Picture}
-use Rattle.sal_wire.specs.Reading.{came, entry_of, ack_of, held_at}
-use Rattle.sal_wire.specs.Spelling.{text, quad, pair, name_text, ack_text}
-use Rattle.sal_wire.specs.Pieces.{below}
+use Rattle.sal_wire.specs.Parsing.{parsed, fragment_fields, ack_fields, held_at}
+use Rattle.sal_wire.specs.Layout.{fragment_bytes, u32_bytes, u16_bytes, name_bytes, ack_bytes}
+use Rattle.sal_wire.specs.Fragmentation.{below}
 use Rattle.sal_budget.specs.Gap.{gap_after}
 use Rattle.sal_sender.specs.declared.choice.Choice.{Choice}
 use Rattle.sal_sender.specs.Past.{choices}
@@ -22,10 +22,10 @@ use Rattle.sal_sender.specs.declared.answers.Ignore.TheVariants.{Old}
 use Rattle.sal_sender.specs.declared.choice.Size.TheVariants.{Datagrams}
 use Rattle.sal_receiver.specs.declared.answers.Done.TheVariants.{Show, Older}
 use Rattle.sal_receiver.specs.Past.{Call, Decoding}
-use Rattle.sal_world.specs.World.{Event, sent, after}
-use Rattle.sal_world.specs.World.{Down as DownEvent}
+use Rattle.sal_world.specs.World.{WorldEvent, sent, after}
+use Rattle.sal_world.specs.World.{Delivers}
 use Rattle.sal_receiver.specs.Past.{shown}
-use Rattle.sal_receiver.specs.Ready.{ready}
+use Rattle.sal_receiver.specs.Ready.{ready_source}
 use Rattle.sal_script.specs.declared.line.ScriptLine.{ScriptLine}
 use Rattle.sal_script.specs.declared.line.ScriptLine.TheVariants.{Next, NextLate, Down, Up, DownAll, Wait, Rest}
 use Rattle.sal_world.specs.Script.{Run, begun, played, drained, run_jobs}
@@ -73,7 +73,7 @@ reports_in None = []
 reports_in (Some r) = filter_map reports (reverse r.world.sender)
   where
     reports : SenderCall → Option (ℕ × Reported)
-    reports (Report job ran answer) = Some (job, answer)
+    reports (Report job gave answer) = Some (job, answer)
     reports _ = None
 
 abbrev sent_in : Option (Run ℕ) → ℕ
@@ -86,25 +86,25 @@ olds_in None = []
 olds_in (Some r) = filter_map old (reverse r.world.sender)
   where
     old : SenderCall → Option Bool
-    old (Hear came moment (Ignored Old)) = Some true
-    old (Hear came moment (Heard numbers)) = Some false
+    old (Hear parsed moment (Ignored Old)) = Some true
+    old (Hear parsed moment (Heard numbers)) = Some false
     old _ = None
 
 one_picture : chosen_in (run (shot 128 ∷ []) (Next ∷ [])) ≡ (1, 2, 0, 1) ∷ []
-unfolding chosen made_at sources_from one_thread below text quad pair name_text last_serial came entry_of ack_of held_at ack_text ready drained run_jobs gap_after
+unfolding chosen made_at sources_from one_thread below fragment_bytes u32_bytes u16_bytes name_bytes last_serial parsed fragment_fields ack_fields held_at ack_bytes ready_source drained run_jobs gap_after
 one_picture = refl
 
 one_shown : shown_in (run (shot 128 ∷ []) (Next ∷ DownAll ∷ [])) ≡ 1 ∷ []
-unfolding chosen made_at sources_from one_thread below text quad pair name_text last_serial came entry_of ack_of held_at ack_text ready drained run_jobs gap_after
+unfolding chosen made_at sources_from one_thread below fragment_bytes u32_bytes u16_bytes name_bytes last_serial parsed fragment_fields ack_fields held_at ack_bytes ready_source drained run_jobs gap_after
 one_shown = refl
 
 -- the second of two datagrams is lost, and the sixth picture goes on from the safe state
 lossy_chosen : chosen_in (run six lossy) ≡ (1, 2, 0, 1) ∷ (2, 5, 1, 1) ∷ (3, 8, 2, 1) ∷ (4, 11, 3, 1) ∷ (5, 14, 4, 1) ∷ (6, 16, 1, 1) ∷ []
-unfolding chosen made_at sources_from one_thread below text quad pair name_text last_serial came entry_of ack_of held_at ack_text ready drained run_jobs gap_after
+unfolding chosen made_at sources_from one_thread below fragment_bytes u32_bytes u16_bytes name_bytes last_serial parsed fragment_fields ack_fields held_at ack_bytes ready_source drained run_jobs gap_after
 lossy_chosen = refl
 
 lossy_shown : shown_in (run six lossy) ≡ 1 ∷ 6 ∷ []
-unfolding chosen made_at sources_from one_thread below text quad pair name_text last_serial came entry_of ack_of held_at ack_text ready drained run_jobs gap_after
+unfolding chosen made_at sources_from one_thread below fragment_bytes u32_bytes u16_bytes name_bytes last_serial parsed fragment_fields ack_fields held_at ack_bytes ready_source drained run_jobs gap_after
 lossy_shown = refl
 
 abbrev with_late : List ScriptLine
@@ -112,12 +112,12 @@ with_late = lossy ++ Down 2 ∷ []
 
 -- the lost datagram comes at last: what waits on it is decoded in order, and nothing more is shown
 late_decodings : done_in (run six with_late) ≡ (1, true) ∷ (6, true) ∷ (2, false) ∷ (3, false) ∷ (4, false) ∷ (5, false) ∷ []
-unfolding chosen made_at sources_from one_thread below text quad pair name_text last_serial came entry_of ack_of held_at ack_text ready drained run_jobs gap_after
+unfolding chosen made_at sources_from one_thread below fragment_bytes u32_bytes u16_bytes name_bytes last_serial parsed fragment_fields ack_fields held_at ack_bytes ready_source drained run_jobs gap_after
 late_decodings = refl
 
 -- what was shown stays
 late_shown : shown_in (run six with_late) ≡ 1 ∷ 6 ∷ []
-unfolding chosen made_at sources_from one_thread below text quad pair name_text last_serial came entry_of ack_of held_at ack_text ready drained run_jobs gap_after
+unfolding chosen made_at sources_from one_thread below fragment_bytes u32_bytes u16_bytes name_bytes last_serial parsed fragment_fields ack_fields held_at ack_bytes ready_source drained run_jobs gap_after
 late_shown = refl
 
 abbrev same_four : List Picture
@@ -128,12 +128,12 @@ acked = Next ∷ Down 1 ∷ Next ∷ Down 2 ∷ Up 2 ∷ Next ∷ Down 3 ∷ Up 
 
 -- the fourth choice has source 3
 acked_chosen : chosen_in (run same_four acked) ≡ (1, 2, 0, 1) ∷ (2, 5, 1, 1) ∷ (3, 8, 2, 1) ∷ (4, 11, 3, 1) ∷ []
-unfolding chosen made_at sources_from one_thread below text quad pair name_text last_serial came entry_of ack_of held_at ack_text ready drained run_jobs gap_after
+unfolding chosen made_at sources_from one_thread below fragment_bytes u32_bytes u16_bytes name_bytes last_serial parsed fragment_fields ack_fields held_at ack_bytes ready_source drained run_jobs gap_after
 acked_chosen = refl
 
 -- its floor is 2, since 2 was safe
 acked_floors : floors_in (run same_four acked) ≡ 1 ∷ 1 ∷ 1 ∷ 2 ∷ []
-unfolding chosen made_at sources_from one_thread below text quad pair name_text last_serial came entry_of ack_of held_at ack_text ready drained run_jobs gap_after
+unfolding chosen made_at sources_from one_thread below fragment_bytes u32_bytes u16_bytes name_bytes last_serial parsed fragment_fields ack_fields held_at ack_bytes ready_source drained run_jobs gap_after
 acked_floors = refl
 
 abbrev sixteen : List ScriptLine
@@ -144,63 +144,63 @@ many = replicate 17 (shot 128)
 
 -- the window is full: a key frame with its own floor
 key_after_window : slice_get (chosen_in (run many (sixteen ++ Wait 500000 ∷ Next ∷ []))) 16 ≡ Some (17, 49, 0, 1)
-unfolding chosen made_at sources_from one_thread below text quad pair name_text last_serial came entry_of ack_of held_at ack_text ready drained run_jobs gap_after
+unfolding chosen made_at sources_from one_thread below fragment_bytes u32_bytes u16_bytes name_bytes last_serial parsed fragment_fields ack_fields held_at ack_bytes ready_source drained run_jobs gap_after
 key_after_window = refl
 
 -- it is its own floor
 floor_after_window : slice_get (floors_in (run many (sixteen ++ Wait 500000 ∷ Next ∷ []))) 16 ≡ Some 17
-unfolding chosen made_at sources_from one_thread below text quad pair name_text last_serial came entry_of ack_of held_at ack_text ready drained run_jobs gap_after
+unfolding chosen made_at sources_from one_thread below fragment_bytes u32_bytes u16_bytes name_bytes last_serial parsed fragment_fields ack_fields held_at ack_bytes ready_source drained run_jobs gap_after
 floor_after_window = refl
 
 -- without the wait nothing fits
 nothing_fits : newest_sender_call (run many (sixteen ++ Next ∷ [])) ≡ Some (Choose 0 (Nothing 0 (Datagrams 1 ∷ Datagrams 1 ∷ [])))
-unfolding chosen made_at sources_from one_thread below text quad pair name_text last_serial came entry_of ack_of held_at ack_text ready drained run_jobs gap_after
+unfolding chosen made_at sources_from one_thread below fragment_bytes u32_bytes u16_bytes name_bytes last_serial parsed fragment_fields ack_fields held_at ack_bytes ready_source drained run_jobs gap_after
 nothing_fits = refl
 
 -- and sixteen datagrams were sent
 nothing_sent : sent_in (run many (sixteen ++ Next ∷ [])) ≡ 16
-unfolding chosen made_at sources_from one_thread below text quad pair name_text last_serial came entry_of ack_of held_at ack_text ready drained run_jobs gap_after
+unfolding chosen made_at sources_from one_thread below fragment_bytes u32_bytes u16_bytes name_bytes last_serial parsed fragment_fields ack_fields held_at ack_bytes ready_source drained run_jobs gap_after
 nothing_sent = refl
 
 -- a fine job that is reported after the choice is late
 late_report : reports_in (run (shot 128 ∷ []) (NextLate ∷ DownAll ∷ [])) ≡ (1, Kept) ∷ (2, Late) ∷ []
-unfolding chosen made_at sources_from one_thread below text quad pair name_text last_serial came entry_of ack_of held_at ack_text ready drained run_jobs gap_after
+unfolding chosen made_at sources_from one_thread below fragment_bytes u32_bytes u16_bytes name_bytes last_serial parsed fragment_fields ack_fields held_at ack_bytes ready_source drained run_jobs gap_after
 late_report = refl
 
 -- the coarse one was chosen
 late_choice : chosen_in (run (shot 128 ∷ []) (NextLate ∷ DownAll ∷ [])) ≡ (1, 1, 0, 1) ∷ []
-unfolding chosen made_at sources_from one_thread below text quad pair name_text last_serial came entry_of ack_of held_at ack_text ready drained run_jobs gap_after
+unfolding chosen made_at sources_from one_thread below fragment_bytes u32_bytes u16_bytes name_bytes last_serial parsed fragment_fields ack_fields held_at ack_bytes ready_source drained run_jobs gap_after
 late_choice = refl
 
 -- and one datagram was sent
 late_sent : sent_in (run (shot 128 ∷ []) (NextLate ∷ DownAll ∷ [])) ≡ 1
-unfolding chosen made_at sources_from one_thread below text quad pair name_text last_serial came entry_of ack_of held_at ack_text ready drained run_jobs gap_after
+unfolding chosen made_at sources_from one_thread below fragment_bytes u32_bytes u16_bytes name_bytes last_serial parsed fragment_fields ack_fields held_at ack_bytes ready_source drained run_jobs gap_after
 late_sent = refl
 
 -- two pictures whose states have one name are both shown
 same_twice : shown_in (run (shot 128 ∷ shot 128 ∷ []) (Next ∷ DownAll ∷ Next ∷ DownAll ∷ [])) ≡ 1 ∷ 2 ∷ []
-unfolding chosen made_at sources_from one_thread below text quad pair name_text last_serial came entry_of ack_of held_at ack_text ready drained run_jobs gap_after
+unfolding chosen made_at sources_from one_thread below fragment_bytes u32_bytes u16_bytes name_bytes last_serial parsed fragment_fields ack_fields held_at ack_bytes ready_source drained run_jobs gap_after
 same_twice = refl
 
 -- a number that was not sent ends the run
 unsent : run (shot 128 ∷ []) (Down 1 ∷ []) ≡ None
-unfolding chosen made_at sources_from one_thread below text quad pair name_text last_serial came entry_of ack_of held_at ack_text ready drained run_jobs gap_after
+unfolding chosen made_at sources_from one_thread below fragment_bytes u32_bytes u16_bytes name_bytes last_serial parsed fragment_fields ack_fields held_at ack_bytes ready_source drained run_jobs gap_after
 unsent = refl
 
 -- what is left is sent and delivered
 rest_shown : shown_in (run same_four (Next ∷ Rest ∷ [])) ≡ 1 ∷ 2 ∷ 3 ∷ 4 ∷ []
-unfolding chosen made_at sources_from one_thread below text quad pair name_text last_serial came entry_of ack_of held_at ack_text ready drained run_jobs gap_after
+unfolding chosen made_at sources_from one_thread below fragment_bytes u32_bytes u16_bytes name_bytes last_serial parsed fragment_fields ack_fields held_at ack_bytes ready_source drained run_jobs gap_after
 rest_shown = refl
 
 -- an acknowledgement that comes again is old
 acked_old : olds_in (run same_four acked) ≡ false ∷ false ∷ true ∷ []
-unfolding chosen made_at sources_from one_thread below text quad pair name_text last_serial came entry_of ack_of held_at ack_text ready drained run_jobs gap_after
+unfolding chosen made_at sources_from one_thread below fragment_bytes u32_bytes u16_bytes name_bytes last_serial parsed fragment_fields ack_fields held_at ack_bytes ready_source drained run_jobs gap_after
 acked_old = refl
 
 -- before anything was sent no datagram comes
-abbrev calls_in : List Event → ℕ
+abbrev calls_in : List WorldEvent → ℕ
 calls_in events = length (after toy session events).receiver
 
-none_sent : calls_in (DownEvent 1 ∷ []) ≡ 0
-unfolding after came
+none_sent : calls_in (Delivers 1 ∷ []) ≡ 0
+unfolding after parsed
 none_sent = refl

@@ -5,17 +5,17 @@ use Rattle.std.specs.Option.{option_map}
 use Rattle.std.specs.Prelude.{slice_get}
 use Rattle.sal_codec.specs.Coding.{Coding}
 use Rattle.sal_wire.specs.declared.datagram.Ack.{Ack}
-use Rattle.sal_wire.specs.Spelling.{ack_text}
+use Rattle.sal_wire.specs.Layout.{ack_bytes}
 use Rattle.sal_sender.specs.Machine.{Machine}
 use Rattle.sal_sender.specs.Past.{burst_in, datagrams}
 use Rattle.sal_sender.specs.Past.{Call as SenderCall}
 use Rattle.sal_sender.specs.OneThread.{Session}
 use Rattle.sal_sender.specs.Stands.{Stands as SenderStands}
 use Rattle.sal_receiver.specs.Past.{Call}
-use Rattle.sal_receiver.specs.Machine.{Book}
+use Rattle.sal_receiver.specs.Machine.{ReceiverState}
 use Rattle.sal_receiver.specs.Machine.{Stands as ReceiverStands}
-use Rattle.sal_world.specs.World.{World, acks, acks_of, ack_in, member, after}
-use Rattle.sal_world.specs.Both.{Both}
+use Rattle.sal_world.specs.World.{WorldPast, acks_of, ack_in, at_number, after}
+use Rattle.sal_world.specs.WorldParts.{WorldParts}
 use Rattle.sal_world.specs.Promises.{IsSession}
 use Rattle.sal_world.specs.Stands.{IsWorld, Stands}
 
@@ -33,17 +33,17 @@ got_mapped f (x ∷ xs) zero = refl
 got_mapped f (x ∷ xs) (suc k) = got_mapped f xs k
 
 -- a member of a list of values is the value of a member
-pub member_mapped : {X Y : Type 0} (f : X → Y) (xs : List X) (k : ℕ) → member (map f xs) k ≡ option_map f (member xs k)
+pub member_mapped : {X Y : Type 0} (f : X → Y) (xs : List X) (k : ℕ) → at_number (map f xs) k ≡ option_map f (at_number xs k)
 member_mapped f xs zero = refl
 member_mapped f xs (suc k) = got_mapped f xs k
 
 module _ {S : Type 0} (codec : Coding S) (session : Session) where
   -- what is kept inside is what is seen
-  pub opened : (x b : Both S) (w : World S) → x ≡ b → IsWorld codec session b w → IsWorld codec session x w
+  pub opened : (x b : WorldParts S) (w : WorldPast S) → x ≡ b → IsWorld codec session b w → IsWorld codec session x w
   opened x b w view is = subst (λ v. IsWorld codec session v w) (sym view) is
 
   -- the sender was called, and sent nothing
-  pub sender_called : (x : Both S) (m : Machine S) (w : World S) (call : SenderCall) → IsWorld codec session x w → SenderStands codec m (call ∷ w.sender) → m.session ≡ x.sender.session → burst_in call ≡ [] → IsWorld codec session (record x { sender = m }) (record w { sender = call ∷ w.sender })
+  pub sender_called : (x : WorldParts S) (m : Machine S) (w : WorldPast S) (call : SenderCall) → IsWorld codec session x w → SenderStands codec m (call ∷ w.sender) → m.session ≡ x.sender.session → burst_in call ≡ [] → IsWorld codec session (record x { sender = m }) (record w { sender = call ∷ w.sender })
   sender_called x m w call is stands same none = record {
     session_is = same ∙ is.session_is;
     sender = stands;
@@ -54,23 +54,23 @@ module _ {S : Type 0} (codec : Coding S) (session : Session) where
   }
 
   -- the receiver was called, and what it acknowledged was added
-  pub receiver_called : (x : Both S) (r : Book S) (texts : List (List ℕ)) (w : World S) (call : Call S) → IsWorld codec session x w → ReceiverStands codec r (call ∷ w.receiver) → texts ≡ x.acks ++ map ack_text (ack_in call) → IsWorld codec session (record x { receiver = r; acks = texts }) (record w { receiver = call ∷ w.receiver })
+  pub receiver_called : (x : WorldParts S) (r : ReceiverState S) (texts : List (List ℕ)) (w : WorldPast S) (call : Call S) → IsWorld codec session x w → ReceiverStands codec r (call ∷ w.receiver) → texts ≡ x.acks ++ map ack_bytes (ack_in call) → IsWorld codec session (record x { receiver = r; acks = texts }) (record w { receiver = call ∷ w.receiver })
   receiver_called x r texts w call is stands more = record {
     session_is = is.session_is;
     sender = is.sender;
     receiver = stands;
     sent_are = is.sent_are;
-    acks_are = more ∙ (ap (λ (ts : List (List ℕ)). ts ++ map ack_text (ack_in call)) is.acks_are ∙ sym (map_append ack_text (acks_of w.receiver) (ack_in call)));
+    acks_are = more ∙ (ap (λ (ts : List (List ℕ)). ts ++ map ack_bytes (ack_in call)) is.acks_are ∙ sym (map_append ack_bytes (acks_of w.receiver) (ack_in call)));
     moment_is = is.moment_is;
   }
 
   -- the receiver was called, and acknowledged nothing
-  pub receiver_quiet : (x : Both S) (r : Book S) (w : World S) (call : Call S) → IsWorld codec session x w → ReceiverStands codec r (call ∷ w.receiver) → ack_in call ≡ [] → IsWorld codec session (record x { receiver = r }) (record w { receiver = call ∷ w.receiver })
+  pub receiver_quiet : (x : WorldParts S) (r : ReceiverState S) (w : WorldPast S) (call : Call S) → IsWorld codec session x w → ReceiverStands codec r (call ∷ w.receiver) → ack_in call ≡ [] → IsWorld codec session (record x { receiver = r }) (record w { receiver = call ∷ w.receiver })
   receiver_quiet x r w call is stands none =
-      receiver_called x r x.acks w call is stands (sym (append-nil x.acks) ∙ ap (λ (new : List Ack). x.acks ++ map ack_text new) (sym none))
+      receiver_called x r x.acks w call is stands (sym (append-nil x.acks) ∙ ap (λ (new : List Ack). x.acks ++ map ack_bytes new) (sym none))
 
   -- a world in which nothing happened stands for no events
-  pub stands_new : (b : Both S) → IsSession session → b.sender.session ≡ session → SenderStands codec b.sender [] → ReceiverStands codec b.receiver [] → b.sent ≡ [] → b.acks ≡ [] → b.moment ≡ 0 → Stands codec session b []
+  pub stands_new : (b : WorldParts S) → IsSession session → b.sender.session ≡ session → SenderStands codec b.sender [] → ReceiverStands codec b.receiver [] → b.sent ≡ [] → b.acks ≡ [] → b.moment ≡ 0 → Stands codec session b []
   unfolding after
   stands_new b ok own sender receiver sent_none acks_none first = record {
     session_is = ok;

@@ -4,21 +4,21 @@ use Rattle.std.proofs.lemmas.Bool.{eqb-true, eq-eqb, and_parts, and_from}
 use Rattle.std.specs.List.{list_all, flat_map, find}
 use Rattle.std.specs.Option.{option_map}
 use Rattle.sal_base.specs.Lists.{Has, Each}
-use Rattle.sal_wire.specs.Entry.{Entry}
-use Rattle.sal_wire.specs.Pieces.{below, count_of, piece}
-use Rattle.sal_reasm.specs.declared.offered.ClashField.{ClashField}
-use Rattle.sal_reasm.specs.declared.offered.ClashField.TheVariants.{Source, Target, Count, Length, Data}
-use Rattle.sal_reasm.specs.Complete.{floor_of, with_part, parts_of, data_at, are_all, joined}
-use Rattle.sal_reasm.specs.Offer.{Difference, or_else, first_difference, unequal, data_clash, clash_of}
+use Rattle.sal_wire.specs.Fields.{FragmentFields}
+use Rattle.sal_wire.specs.Fragmentation.{below, fragment_count, fragment_data}
+use Rattle.sal_reasm.specs.declared.answers.ClashField.{ClashField}
+use Rattle.sal_reasm.specs.declared.answers.ClashField.TheVariants.{Source, Target, Count, Length, Data}
+use Rattle.sal_reasm.specs.Complete.{floor_of, with_fragment, fragments_of, data_at, has_all, reassembled}
+use Rattle.sal_reasm.specs.Offer.{Difference, or_else, first_difference, unequal, data_clash, clash_with_fragments}
 use Rattle.sal_receiver.specs.Ready.{source_in, target_in}
 use Rattle.sal_world.proofs.Cut.{pieces_join}
 
 -- a fragment of the frame with these bytes and the names of its source and target
-pub record Says (source target bytes : List ℕ) (e : Entry) : Type 0 where
+pub record Says (source target bytes : List ℕ) (e : FragmentFields) : Type 0 where
   pub source_is : e.source ≡ source
   pub target_is : e.target ≡ target
-  pub count_is : e.count ≡ count_of bytes
-  pub bytes_are : e.bytes ≡ piece bytes e.index
+  pub count_is : e.count ≡ fragment_count bytes
+  pub bytes_are : e.bytes ≡ fragment_data bytes e.index
 
 -- ---- lists
 
@@ -56,38 +56,38 @@ all_more f g h (x ∷ xs) all =
 -- ---- fragments of one frame
 
 module _ (source target bytes : List ℕ) where
-  data_step : (b : Bool) (e : Entry) (k : ℕ) (o : Option Entry) (x : List ℕ) → eqb e.index k ≡ b → Says source target bytes e → (option_map (λ (p : Entry). p.bytes) o ≡ Some x → x ≡ piece bytes k) → option_map (λ (p : Entry). p.bytes) (cond b (Some e) o) ≡ Some x → x ≡ piece bytes k
-  data_step true e k o x is says more h = let own : e.bytes ≡ x = cc in sym own ∙ (says.bytes_are ∙ ap (piece bytes) (eqb-true _ _ is))
+  data_step : (b : Bool) (e : FragmentFields) (k : ℕ) (o : Option FragmentFields) (x : List ℕ) → eqb e.index k ≡ b → Says source target bytes e → (option_map (λ (p : FragmentFields). p.bytes) o ≡ Some x → x ≡ fragment_data bytes k) → option_map (λ (p : FragmentFields). p.bytes) (cond b (Some e) o) ≡ Some x → x ≡ fragment_data bytes k
+  data_step true e k o x is says more h = let own : e.bytes ≡ x = cc in sym own ∙ (says.bytes_are ∙ ap (fragment_data bytes) (eqb-true _ _ is))
   data_step false e k o x is says more h = more h
 
   -- the data that is there of an index is its piece
-  pub data_says : (parts : List Entry) (k : ℕ) (x : List ℕ) → Each (Says source target bytes) parts → data_at parts k ≡ Some x → x ≡ piece bytes k
+  pub data_says : (parts : List FragmentFields) (k : ℕ) (x : List ℕ) → Each (Says source target bytes) parts → data_at parts k ≡ Some x → x ≡ fragment_data bytes k
   data_says [] k x says h = absurd (cc)
-  data_says (e ∷ parts) k x says h = data_step (eqb e.index k) e k (find (λ (p : Entry). eqb p.index k) parts) x refl says.0 (data_says parts k x says.1) h
+  data_says (e ∷ parts) k x says h = data_step (eqb e.index k) e k (find (λ (p : FragmentFields). eqb p.index k) parts) x refl says.0 (data_says parts k x says.1) h
 
   -- where all are there, they are the frame
-  pub all_joined : (parts : List Entry) → Each (Says source target bytes) parts → are_all parts ≡ true → joined parts ≡ bytes
+  pub all_joined : (parts : List FragmentFields) → Each (Says source target bytes) parts → has_all parts ≡ true → reassembled parts ≡ bytes
   all_joined [] says all = absurd (cc)
   all_joined (e ∷ parts) says all =
-      flat_there (data_at (e ∷ parts)) (piece bytes) (below e.count) (λ k x h. data_says (e ∷ parts) k x says h) all
-      ∙ (ap (λ (n : ℕ). flat_map (piece bytes) (below n)) says.0.count_is ∙ pieces_join bytes)
+      flat_there (data_at (e ∷ parts)) (fragment_data bytes) (below e.count) (λ k x h. data_says (e ∷ parts) k x says h) all
+      ∙ (ap (λ (n : ℕ). flat_map (fragment_data bytes) (below n)) says.0.count_is ∙ pieces_join bytes)
 
-  pub all_source : (parts : List Entry) → Each (Says source target bytes) parts → are_all parts ≡ true → source_in parts ≡ source
+  pub all_source : (parts : List FragmentFields) → Each (Says source target bytes) parts → has_all parts ≡ true → source_in parts ≡ source
   all_source [] says all = absurd (cc)
   all_source (e ∷ parts) says all = says.0.source_is
 
-  pub all_target : (parts : List Entry) → Each (Says source target bytes) parts → are_all parts ≡ true → target_in parts ≡ target
+  pub all_target : (parts : List FragmentFields) → Each (Says source target bytes) parts → has_all parts ≡ true → target_in parts ≡ target
   all_target [] says all = absurd (cc)
   all_target (e ∷ parts) says all = says.0.target_is
 
-  data_same : (o : Option (List ℕ)) (e : Entry) → Says source target bytes e → ((x : List ℕ) → o ≡ Some x → x ≡ piece bytes e.index) → data_clash o e.bytes ≡ None
+  data_same : (o : Option (List ℕ)) (e : FragmentFields) → Says source target bytes e → ((x : List ℕ) → o ≡ Some x → x ≡ fragment_data bytes e.index) → data_clash o e.bytes ≡ None
   data_same None e says is = refl
   data_same (Some x) e says is =
       let same : x ≡ e.bytes = is x refl ∙ sym says.bytes_are in
       both_none (unequal Length (length x) (length e.bytes)) (first_difference Data 0 x e.bytes) (no_unequal Length _ _ (ap (λ (ys : List ℕ). length ys) same)) (same_difference Data x e.bytes same)
 
   -- none differs from another
-  pub no_clash : (parts : List Entry) (e : Entry) → Each (Says source target bytes) parts → Says source target bytes e → clash_of parts e ≡ None
+  pub no_clash : (parts : List FragmentFields) (e : FragmentFields) → Each (Says source target bytes) parts → Says source target bytes e → clash_with_fragments parts e ≡ None
   no_clash [] e says own = refl
   no_clash (p ∷ parts) e says own =
       both_none _ _ (same_difference Source p.source e.source (says.0.source_is ∙ sym own.source_is))
@@ -95,15 +95,15 @@ module _ (source target bytes : List ℕ) where
       (both_none _ _ (no_unequal Count p.count e.count (says.0.count_is ∙ sym own.count_is))
       (data_same (data_at (p ∷ parts) e.index) e own (λ x h. data_says (p ∷ parts) e.index x says h))))
 
-  more_data : (e : Entry) (parts : List Entry) (k : ℕ) → is_some (data_at parts k) ≡ true → is_some (data_at (e ∷ parts) k) ≡ true
+  more_data : (e : FragmentFields) (parts : List FragmentFields) (k : ℕ) → is_some (data_at parts k) ≡ true → is_some (data_at (e ∷ parts) k) ≡ true
   more_data e parts k h = step (eqb e.index k)
     where
-      step : (b : Bool) → is_some (option_map (λ (x : Entry). x.bytes) (cond b (Some e) (find (λ (x : Entry). eqb x.index k) parts))) ≡ true
+      step : (b : Bool) → is_some (option_map (λ (x : FragmentFields). x.bytes) (cond b (Some e) (find (λ (x : FragmentFields). eqb x.index k) parts))) ≡ true
       step true = refl
       step false = h
 
   -- where all are there, they stay there
-  pub all_stay : (e : Entry) (parts : List Entry) → Each (Says source target bytes) parts → Says source target bytes e → are_all parts ≡ true → are_all (e ∷ parts) ≡ true
+  pub all_stay : (e : FragmentFields) (parts : List FragmentFields) → Each (Says source target bytes) parts → Says source target bytes e → has_all parts ≡ true → has_all (e ∷ parts) ≡ true
   all_stay e [] says own all = absurd (cc)
   all_stay e (p ∷ before) says own all =
       subst (λ (n : ℕ). list_all (λ k. is_some (data_at (e ∷ p ∷ before) k)) (below n) ≡ true) (says.0.count_is ∙ sym own.count_is)
@@ -111,37 +111,37 @@ module _ (source target bytes : List ℕ) where
 
 -- ---- numbers
 
-part_step : (P : Entry → Type 0) (b : Bool) (e : Entry) (rest : List Entry) → (b ≡ true → P e) → Each P rest → Each P (cond b (e ∷ rest) rest)
+part_step : (P : FragmentFields → Type 0) (b : Bool) (e : FragmentFields) (rest : List FragmentFields) → (b ≡ true → P e) → Each P rest → Each P (cond b (e ∷ rest) rest)
 part_step P true e rest own more = (own refl, more)
 part_step P false e rest own more = more
 
 -- the fragments of a number meet what all with that number meet
-pub each_part : (P : Entry → Type 0) (n : ℕ) (es : List Entry) → Each (λ e. e.number ≡ n → P e) es → Each P (parts_of n es)
+pub each_part : (P : FragmentFields → Type 0) (n : ℕ) (es : List FragmentFields) → Each (λ e. e.number ≡ n → P e) es → Each P (fragments_of n es)
 each_part P n [] each = tt
-each_part P n (e ∷ es) each = part_step P (eqb e.number n) e (parts_of n es) (λ (is : eqb e.number n ≡ true). each.0 (eqb-true _ _ is)) (each_part P n es each.1)
+each_part P n (e ∷ es) each = part_step P (eqb e.number n) e (fragments_of n es) (λ (is : eqb e.number n ≡ true). each.0 (eqb-true _ _ is)) (each_part P n es each.1)
 
-taken_step : (P : Entry → Type 0) (b : Bool) (e : Entry) (taken : List Entry) → P e → Each P taken → Each P (cond b taken (e ∷ taken))
+taken_step : (P : FragmentFields → Type 0) (b : Bool) (e : FragmentFields) (taken : List FragmentFields) → P e → Each P taken → Each P (cond b taken (e ∷ taken))
 taken_step P true e taken own each = each
 taken_step P false e taken own each = (own, each)
 
 -- one more that is taken meets it too
-pub each_taken : (P : Entry → Type 0) (e : Entry) (taken : List Entry) → P e → Each P taken → Each P (with_part e taken)
+pub each_taken : (P : FragmentFields → Type 0) (e : FragmentFields) (taken : List FragmentFields) → P e → Each P taken → Each P (with_fragment e taken)
 each_taken P e taken own each = taken_step P (ltb e.number (floor_of taken)) e taken own each
 
-kept_step : (below here : Bool) (e : Entry) (n : ℕ) (taken parts : List Entry) → parts_of n taken ≡ parts → eqb e.number n ≡ here → (here ≡ true → are_all (e ∷ parts) ≡ true) → are_all parts ≡ true → are_all (parts_of n (cond below taken (e ∷ taken))) ≡ true
-kept_step true here e n taken parts is same more all = ap are_all is ∙ all
+kept_step : (below here : Bool) (e : FragmentFields) (n : ℕ) (taken parts : List FragmentFields) → fragments_of n taken ≡ parts → eqb e.number n ≡ here → (here ≡ true → has_all (e ∷ parts) ≡ true) → has_all parts ≡ true → has_all (fragments_of n (cond below taken (e ∷ taken))) ≡ true
+kept_step true here e n taken parts is same more all = ap has_all is ∙ all
 kept_step false true e n taken parts is same more all = rw (same, is) (more refl)
 kept_step false false e n taken parts is same more all = rw (same, is) all
 
 -- a frame of which all are there stays so as one more is taken
-pub whole_stays : (e : Entry) (n : ℕ) (taken : List Entry) → (e.number ≡ n → are_all (e ∷ parts_of n taken) ≡ true) → are_all (parts_of n taken) ≡ true → are_all (parts_of n (with_part e taken)) ≡ true
-whole_stays e n taken more all = kept_step (ltb e.number (floor_of taken)) (eqb e.number n) e n taken (parts_of n taken) refl refl (λ (is : eqb e.number n ≡ true). more (eqb-true _ _ is)) all
+pub whole_stays : (e : FragmentFields) (n : ℕ) (taken : List FragmentFields) → (e.number ≡ n → has_all (e ∷ fragments_of n taken) ≡ true) → has_all (fragments_of n taken) ≡ true → has_all (fragments_of n (with_fragment e taken)) ≡ true
+whole_stays e n taken more all = kept_step (ltb e.number (floor_of taken)) (eqb e.number n) e n taken (fragments_of n taken) refl refl (λ (is : eqb e.number n ≡ true). more (eqb-true _ _ is)) all
 
 -- a frame of which all are there has a fragment
-pub all_one : (n : ℕ) (es : List Entry) → are_all (parts_of n es) ≡ true → (e : Entry) × Has es e × (e.number ≡ n)
+pub all_one : (n : ℕ) (es : List FragmentFields) → has_all (fragments_of n es) ≡ true → (e : FragmentFields) × Has es e × (e.number ≡ n)
 all_one n [] all = absurd (cc)
 all_one n (e ∷ es) all = step (eqb e.number n) refl all (all_one n es)
   where
-    step : (b : Bool) → eqb e.number n ≡ b → are_all (cond b (e ∷ parts_of n es) (parts_of n es)) ≡ true → (are_all (parts_of n es) ≡ true → (x : Entry) × Has es x × (x.number ≡ n)) → (x : Entry) × Has (e ∷ es) x × (x.number ≡ n)
+    step : (b : Bool) → eqb e.number n ≡ b → has_all (cond b (e ∷ fragments_of n es) (fragments_of n es)) ≡ true → (has_all (fragments_of n es) ≡ true → (x : FragmentFields) × Has es x × (x.number ≡ n)) → (x : FragmentFields) × Has (e ∷ es) x × (x.number ≡ n)
     step true is all more = (e, inl refl, eqb-true _ _ is)
     step false is all more = let m = more all in (m.0, inr m.1, m.2)

@@ -3,33 +3,36 @@ use Rattle.std.specs.Prelude.{ℕ, zero, suc, ◌+◌, ◌-◌, ◌*◌, ◌/◌
 use Rattle.std.specs.List.{list_any}
 use Rattle.sal_base.specs.declared.picture.Picture.{Picture}
 use Rattle.sal_codec.specs.Coding.{Coding}
-use Rattle.sal_wire.specs.Pieces.{below}
+use Rattle.sal_wire.specs.Fragmentation.{below}
+use Rattle.sal_sender.specs.declared.outcome.Gave.{Gave}
+use Rattle.sal_sender.specs.JobWork.{encoded, given}
+use Rattle.sal_sender.specs.Stands.{work_of}
 use Rattle.sal_sender.specs.Jobs.{Job}
 use Rattle.sal_sender.specs.OneThread.{Session}
-use Rattle.sal_sender.specs.Choosing.{is_fine, first_of}
+use Rattle.sal_sender.specs.Choosing.{is_fine, first_in}
 use Rattle.sal_sender.specs.Answers.{waiting_jobs}
 use Rattle.sal_receiver.specs.Past.{shown}
 use Rattle.sal_receiver.specs.Ready.{take_answer as ready_answer}
 use Rattle.sal_script.specs.declared.line.ScriptLine.{ScriptLine}
 use Rattle.sal_script.specs.declared.line.ScriptLine.TheVariants.{Next as NextLine, NextLate, Down as DownLine, Up as UpLine, DownAll, UpAll, Wait, Rest}
-use Rattle.sal_world.specs.World.{Event, Next, Take, Reports, Chooses, Down, Up, Ready, Decodes, Moment, World, start, sent, acks, happens}
+use Rattle.sal_world.specs.World.{WorldEvent, Starts, TakesJob, Reports, Chooses, Delivers, Hears, TakesReady, Decodes, Passes, WorldPast, start, sent, acks, happens}
 
 -- a run so far: its events with the newest first, the world that they make, and the pictures that are left
 pub record Run (S : Type 0) : Type 0 where
-  pub events : List Event
-  pub world : World S
+  pub events : List WorldEvent
+  pub world : WorldPast S
   pub left : List Picture
 
-abbrev pub downs_in : Event → ℕ → Bool
-downs_in (Down which) k = which == k
+abbrev pub downs_in : WorldEvent → ℕ → Bool
+downs_in (Delivers which) k = which == k
 downs_in _ k = false
 
-abbrev pub ups_in : Event → ℕ → Bool
-ups_in (Up which) k = which == k
+abbrev pub ups_in : WorldEvent → ℕ → Bool
+ups_in (Hears which) k = which == k
 ups_in _ k = false
 
 -- the numbers 1 to n that no event before named
-abbrev pub unnamed : (Event → ℕ → Bool) → List Event → ℕ → List ℕ
+abbrev pub unnamed : (WorldEvent → ℕ → Bool) → List WorldEvent → ℕ → List ℕ
 unnamed names events n = filter (λ k. not (list_any (λ e. names e k) events)) (map (λ k. k + 1) (below n))
 
 -- k numbers one of this many
@@ -40,15 +43,19 @@ abbrev pub begun : {S : Type 0} → List Picture → Run S
 begun pictures = record { events = []; world = start; left = pictures }
 
 module _ {S : Type 0} (codec : Coding S) (session : Session) where
-  abbrev pub with_event : Event → Run S → Run S
+  abbrev pub with_event : WorldEvent → Run S → Run S
   with_event event r = record { events = event ∷ r.events; world = happens codec session r.world event; left = r.left }
+
+  -- what a job gives where there is memory: what the codec makes of its work
+  abbrev pub gives : Run S → Job → Gave
+  gives r job = given (encoded codec (work_of codec r.world.sender job))
 
   -- jobs are taken, run and reported in their order, at most so many, up to the first that is late
   unfoldable pub run_jobs : (Job → Bool) → ℕ → Run S → Run S
   run_jobs is_late zero r = r
-  run_jobs is_late (suc n) r = elim (first_of (waiting_jobs r.world.sender)) [
+  run_jobs is_late (suc n) r = elim (first_in (waiting_jobs r.world.sender)) [
     | None ↦ r
-    | Some job ↦ if is_late job then r else run_jobs is_late n (with_event (Reports job.id true) (with_event Take r))
+    | Some job ↦ if is_late job then r else run_jobs is_late n (with_event (Reports job.id (gives r job)) (with_event TakesJob r))
   ]
 
   -- a picture has at most three jobs
@@ -61,24 +68,24 @@ module _ {S : Type 0} (codec : Coding S) (session : Session) where
 
   -- a picture is started, encoded and chosen
   abbrev pub next_picture : (Job → Bool) → Picture → Run S → Run S
-  next_picture is_late picture r = chosen_after is_late (with_event (Next picture) r)
+  next_picture is_late picture r = chosen_after is_late (with_event (Starts picture) r)
 
   -- each ready frame is decoded, until none is ready; there are at most so many
   unfoldable pub drained : ℕ → Run S → Run S
-  drained zero r = with_event Ready r
+  drained zero r = with_event TakesReady r
   drained (suc n) r = elim (ready_answer codec r.world.receiver) [
-    | None ↦ with_event Ready r
-    | Some number ↦ drained n (with_event (Decodes number true) (with_event Ready r))
+    | None ↦ with_event TakesReady r
+    | Some number ↦ drained n (with_event (Decodes number true) (with_event TakesReady r))
   ]
 
   abbrev pub down : ℕ → Run S → Run S
-  down k r = decode_all (with_event (Down k) r)
+  down k r = decode_all (with_event (Delivers k) r)
     where
       decode_all : Run S → Run S
       decode_all r = drained (length (acks r.world)) r
 
   abbrev pub up : ℕ → Run S → Run S
-  up k r = with_event (Up k) r
+  up k r = with_event (Hears k) r
 
   abbrev pub each : (ℕ → Run S → Run S) → List ℕ → Run S → Run S
   each step [] r = r
@@ -91,7 +98,7 @@ module _ {S : Type 0} (codec : Coding S) (session : Session) where
   up_all r = each up (unnamed ups_in r.events (length (acks r.world))) r
 
   abbrev pub wait : ℕ → Run S → Run S
-  wait time r = with_event (Moment (min (2 ^ 64 - 1) (r.world.moment + time))) r
+  wait time r = with_event (Passes (min (2 ^ 64 - 1) (r.world.moment + time))) r
 
   -- each picture left is started, and all that came of it is delivered, one period after the other
   abbrev pub rest : List Picture → Run S → Run S

@@ -3,42 +3,44 @@ use Rattle.std.specs.Prelude.{ℕ, zero, suc, max, Bool, List, [], ◌∷◌, �
 use Rattle.sal_base.specs.declared.picture.Picture.{Picture}
 use Rattle.sal_codec.specs.Coding.{Coding}
 use Rattle.sal_wire.specs.declared.datagram.Ack.{Ack}
-use Rattle.sal_wire.specs.Reading.{came}
-use Rattle.sal_wire.specs.Spelling.{ack_text}
+use Rattle.sal_wire.specs.Parsing.{parsed}
+use Rattle.sal_wire.specs.Layout.{ack_bytes}
+use Rattle.sal_sender.specs.declared.outcome.Gave.{Gave}
 use Rattle.sal_sender.specs.Past.{Past, NextPicture, TakeJob, Report, Choose, Hear, datagrams}
 use Rattle.sal_sender.specs.OneThread.{Session}
 use Rattle.sal_sender.specs.Choosing.{chosen}
 use Rattle.sal_sender.specs.Answers.{next_answer, take_answer, report_answer, heard_answer}
 use Rattle.sal_receiver.specs.declared.answers.Delivered.TheVariants.{Taken}
-use Rattle.sal_receiver.specs.Past.{Call, Deliver, TakeReady, Decoding, Outcome}
-use Rattle.sal_receiver.specs.Ready.{ready, frame, decoding_of}
+use Rattle.sal_receiver.specs.Past.{Call, Deliver, TakeReady, Decoding, DecodeResult}
+use Rattle.sal_receiver.specs.Ready.{ready_source, frame, decoding_of}
 use Rattle.sal_receiver.specs.Ready.{take_answer as ready_answer}
 use Rattle.sal_receiver.specs.Answers.{deliver_answer, decoded_answer}
 
--- what may happen next; a report or a decoding is of what was handed out, and a call that lacks memory does nothing
-pub data Event : Type 0 where
-  Next : (picture : Picture) → Event
-  Take : Event
-  Reports : (job : ℕ) → (ran : Bool) → Event
-  Chooses : Event
-  Down : (which : ℕ) → Event
-  Up : (which : ℕ) → Event
-  Ready : Event
-  Decodes : (number : ℕ) → (ran : Bool) → Event
-  Moment : (moment : ℕ) → Event
+-- what may happen next; a report or a decoding is of what was handed out, and a call that lacks memory does nothing.
+-- Jobs and pictures are counted from 1 as they are started, datagrams and acknowledgements from 1 as they are sent
+pub data WorldEvent : Type 0 where
+  Starts : (picture : Picture) → WorldEvent
+  TakesJob : WorldEvent
+  Reports : (job : ℕ) → (gave : Gave) → WorldEvent
+  Chooses : WorldEvent
+  Delivers : (which : ℕ) → WorldEvent
+  Hears : (which : ℕ) → WorldEvent
+  TakesReady : WorldEvent
+  Decodes : (number : ℕ) → (ran : Bool) → WorldEvent
+  Passes : (moment : ℕ) → WorldEvent
 
 -- what both machines were called with and answered, and the moment that they share
-pub record World (S : Type 0) : Type 0 where
+pub record WorldPast (S : Type 0) : Type 0 where
   pub sender : Past
   pub receiver : List (Call S)
   pub moment : ℕ
 
 module _ {S : Type 0} where
-  abbrev pub start : World S
+  abbrev pub start : WorldPast S
   start = record { sender = []; receiver = []; moment = 0 }
 
   abbrev pub ack_in : Call S → List Ack
-  ack_in (Deliver came moment (Taken ack)) = ack ∷ []
+  ack_in (Deliver parsed moment (Taken ack)) = ack ∷ []
   ack_in _ = []
 
   abbrev pub acks_of : List (Call S) → List Ack
@@ -46,51 +48,51 @@ module _ {S : Type 0} where
   acks_of (call ∷ past) = acks_of past ++ ack_in call
 
   -- all datagrams that choices answered, and all acknowledgements that deliveries answered
-  abbrev pub sent : World S → List (List ℕ)
+  abbrev pub sent : WorldPast S → List (List ℕ)
   sent w = datagrams w.sender
 
-  abbrev pub acks : World S → List Ack
+  abbrev pub acks : WorldPast S → List Ack
   acks w = acks_of w.receiver
 
--- member k of a list, counted from 1
-abbrev pub member : {X : Type 0} → List X → ℕ → Option X
-member xs zero = None
-member xs (suc k) = slice_get xs k
+-- what has the number k in a list whose first has the number 1
+abbrev pub at_number : {X : Type 0} → List X → ℕ → Option X
+at_number xs zero = None
+at_number xs (suc k) = slice_get xs k
 
 module _ {S : Type 0} (codec : Coding S) where
   -- bytes come to the receiver
-  abbrev pub delivered : World S → List ℕ → World S
-  delivered w bytes = record w { receiver = Deliver (came bytes) w.moment (deliver_answer codec w.receiver (came bytes) w.moment) ∷ w.receiver }
+  abbrev pub delivered : WorldPast S → List ℕ → WorldPast S
+  delivered w bytes = record w { receiver = Deliver (parsed bytes) w.moment (deliver_answer codec w.receiver (parsed bytes) w.moment) ∷ w.receiver }
 
-  abbrev pub delivers : World S → Option (List ℕ) → World S
-  delivers w None = w
-  delivers w (Some bytes) = delivered w bytes
+  abbrev pub delivered_if_sent : WorldPast S → Option (List ℕ) → WorldPast S
+  delivered_if_sent w None = w
+  delivered_if_sent w (Some bytes) = delivered w bytes
 
-  abbrev pub decodes : World S → ℕ → Outcome S → World S
+  abbrev pub decodes : WorldPast S → ℕ → DecodeResult S → WorldPast S
   decodes w n outcome = record w { receiver = Decoding n outcome (decoded_answer codec w.receiver n outcome) ∷ w.receiver }
 
 module _ {S : Type 0} (codec : Coding S) (session : Session) where
   -- an acknowledgement comes back to the sender
-  abbrev pub heard_back : World S → Ack → World S
-  heard_back w ack = record w { sender = Hear (came (ack_text ack)) w.moment (heard_answer codec session w.sender (came (ack_text ack))) ∷ w.sender }
+  abbrev pub heard_back : WorldPast S → Ack → WorldPast S
+  heard_back w ack = record w { sender = Hear (parsed (ack_bytes ack)) w.moment (heard_answer codec session w.sender (parsed (ack_bytes ack))) ∷ w.sender }
 
-  abbrev pub hears : World S → Option Ack → World S
-  hears w None = w
-  hears w (Some ack) = heard_back w ack
+  abbrev pub heard_if_sent : WorldPast S → Option Ack → WorldPast S
+  heard_if_sent w None = w
+  heard_if_sent w (Some ack) = heard_back w ack
 
   -- the world after an event
-  abbrev pub happens : World S → Event → World S
-  happens w (Next picture) = record w { sender = NextPicture picture w.moment (next_answer w.sender) ∷ w.sender }
-  happens w Take = record w { sender = TakeJob (take_answer w.sender) ∷ w.sender }
-  happens w (Reports job ran) = record w { sender = Report job ran (report_answer w.sender job) ∷ w.sender }
+  abbrev pub happens : WorldPast S → WorldEvent → WorldPast S
+  happens w (Starts picture) = record w { sender = NextPicture picture w.moment (next_answer w.sender) ∷ w.sender }
+  happens w TakesJob = record w { sender = TakeJob (take_answer w.sender) ∷ w.sender }
+  happens w (Reports job gave) = record w { sender = Report job gave (report_answer w.sender job) ∷ w.sender }
   happens w Chooses = record w { sender = Choose w.moment (chosen codec session w.sender w.moment) ∷ w.sender }
-  happens w (Down which) = delivers codec w (member (sent w) which)
-  happens w (Up which) = hears w (member (acks w) which)
-  happens w Ready = record w { receiver = TakeReady (ready_answer codec w.receiver) ∷ w.receiver }
-  happens w (Decodes n ran) = decodes codec w n (decoding_of codec (ready codec w.receiver n) (frame w.receiver n) ran)
-  happens w (Moment moment) = record w { moment = max moment w.moment }
+  happens w (Delivers which) = delivered_if_sent codec w (at_number (sent w) which)
+  happens w (Hears which) = heard_if_sent w (at_number (acks w) which)
+  happens w TakesReady = record w { receiver = TakeReady (ready_answer codec w.receiver) ∷ w.receiver }
+  happens w (Decodes n ran) = decodes codec w n (decoding_of codec (ready_source codec w.receiver n) (frame w.receiver n) ran)
+  happens w (Passes moment) = record w { moment = max moment w.moment }
 
   -- the world after these events, the newest first
-  unfoldable pub after : List Event → World S
+  unfoldable pub after : List WorldEvent → WorldPast S
   after [] = start
   after (event ∷ before) = happens (after before) event

@@ -1,6 +1,6 @@
 ghost use Rattle.std.specs.Prelude.{[], List};
 ghost use Rattle.sal_sender.specs.OneThread.{Session};
-ghost use Rattle.sal_world.specs.World.{Event as EventOf};
+ghost use Rattle.sal_world.specs.World.{WorldEvent};
 ghost use Rattle.sal_world.specs.Stands.{Stands};
 
 use super::*;
@@ -46,7 +46,7 @@ fn kind<C: Codec>(answer: &Answer<C>) -> First {
 
 // What a world answers where a job is asked for.
 fn takes<C: Codec>(mut world: World<C>) -> First
-    requires { (session : Session) × ((events : List EventOf) × Stands C.coding session world events) }
+    requires { (session : Session) × ((events : List WorldEvent) × Stands C.coding session world events) }
 {
     kind(&world.step(Event::Take))
 }

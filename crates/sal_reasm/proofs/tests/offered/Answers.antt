@@ -1,16 +1,16 @@
 use Rattle.std.proofs.Common.{refl, arith}
-use Rattle.sal_wire.specs.Spelling.{name_text}
+use Rattle.sal_wire.specs.Layout.{name_bytes}
 use Rattle.sal_reasm.proofs.tests.offered.Goals as goal
 
 pub offer-requires : goal.offer-requires
-unfolding name_text
+unfolding name_bytes
 offer-requires c = record {
   serial = omega arith;
   number = omega (arith, c.if-case-eq0.false, c.if-case.false);
   number_below = c.if-case-gt1048575.false;
   floor = omega (arith, c.if-case-eq0.false);
   floor_below = c.if-case.false;
-  window = c.if-case-gt15.false;
+  window = omega (arith, c.if-case-gt15.false);
   source = refl;
   target = refl;
   count = omega (arith, c.if-case-2.false);

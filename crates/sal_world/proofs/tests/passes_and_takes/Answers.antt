@@ -1,6 +1,6 @@
 use Rattle.std.proofs.Common.{◌≡◌, false, true, [], ◌∷◌, inl, inr}
 use Rattle.std.specs.Prelude.{◌⊎◌}
-use Rattle.sal_world.specs.World.{Moment}
+use Rattle.sal_world.specs.World.{Passes}
 use Rattle.sal_world.proofs.tests.passes_and_takes.Goals as goal
 
 stepped : {A P Q : Type 0} (answer memory : A) → (answer ≡ memory) ⊎ (P × Q) → (answer ≡ memory → false ≡ true) → Q
@@ -12,4 +12,4 @@ step-requires-clause-may g c κs within = (c.requires.0, ([], (c.requires.1, tt)
 
 pub takes-requires-after_bounds : goal.takes-requires-after_bounds
 takes-requires-after_bounds g c κs within =
-    (c.requires.0, (Moment c.args.moment ∷ [], stepped _ _ (c.step.ensures.answered c.requires.0 [] c.requires.1 tt) (c.step.ensures.memory c.requires.0 [] c.requires.1)))
+    (c.requires.0, (Passes c.args.moment ∷ [], stepped _ _ (c.step.ensures.answered c.requires.0 [] c.requires.1 tt) (c.step.ensures.memory c.requires.0 [] c.requires.1)))

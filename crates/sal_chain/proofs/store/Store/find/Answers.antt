@@ -1,14 +1,14 @@
-use Rattle.std.proofs.Common.{◌≡◌, Some, None, ap, ◌∙◌}
-use Rattle.sal_chain.specs.Held.{named}
+use Rattle.std.proofs.Common.{Some, None, ap, ◌∙◌}
+use Rattle.sal_chain.specs.Held.{with_name}
 use Rattle.sal_chain.proofs.Sharing.{found_named}
 use Rattle.sal_chain.proofs.store.Store.find.Goals as goal
 
 pub returns-in-Some : goal.returns-in-Some
 returns-in-Some g c =
     found_named c.args.name.0 c.self.inside.items.items c.args.self.now c.self.inside.floor (Some c.in-Some.kept.now) c.self.view_is
-    (c.in-Some.ensures ∙ ap (named c.args.name.0) c.as_slice.ensures.value)
+    (c.in-Some.ensures ∙ ap (with_name c.args.name.0) c.as_slice.ensures.value)
 
 pub returns-in-None : goal.returns-in-None
 returns-in-None g c =
     found_named c.args.name.0 c.self.inside.items.items c.args.self.now c.self.inside.floor None c.self.view_is
-    (c.in-None.ensures ∙ ap (named c.args.name.0) c.as_slice.ensures.value)
+    (c.in-None.ensures ∙ ap (with_name c.args.name.0) c.as_slice.ensures.value)

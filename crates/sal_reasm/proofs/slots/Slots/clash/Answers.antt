@@ -1,8 +1,8 @@
 use Rattle.std.proofs.Common.{◌≡◌, ◌≤◌, ◌%◌, None, length, get_or, ap, sym, ◌∙◌, arith}
 use Rattle.std.proofs.lemmas.List.{get_or_default}
-use Rattle.sal_wire.specs.Entry.{view}
-use Rattle.sal_reasm.specs.Window.{numbered}
-use Rattle.sal_reasm.specs.Step.{clash_where}
+use Rattle.sal_wire.specs.Fields.{fields_of}
+use Rattle.sal_reasm.specs.SlotTable.{if_number}
+use Rattle.sal_reasm.specs.Step.{clash_with_slot}
 use Rattle.sal_reasm.proofs.Windows.{clash_is}
 use Rattle.sal_reasm.proofs.slots.Slots.clash.Goals as goal
 
@@ -15,5 +15,5 @@ returns c = λ taken keeps.
     ∙ (get_or_default c.self.inside.frames.items (c.args.fragment.now.number % 16) c.index.result.now None (omega (arith, c.self.invariant))
     ∙ ap (λ w. get_or w.frames (c.args.fragment.now.number % 16) None) c.self.view_is) in
     c.clash_at.ensures
-    ∙ (ap (λ o. clash_where (numbered c.args.fragment.now.number o) (view c.args.fragment.now)) there
-    ∙ clash_is c.args.self.now taken (view c.args.fragment.now) keeps c.requires low sixteen)
+    ∙ (ap (λ o. clash_with_slot (if_number c.args.fragment.now.number o) (fields_of c.args.fragment.now)) there
+    ∙ clash_is c.args.self.now taken (fields_of c.args.fragment.now) keeps c.requires low sixteen)

@@ -1,5 +1,5 @@
 use Rattle.std.proofs.Common.{ap, sym, ◌∙◌, subst, refl, ◌∷◌}
-use Rattle.sal_wire.specs.Came.{seen, Report}
+use Rattle.sal_wire.specs.Message.{as_message, AckMessage}
 use Rattle.sal_receiver.specs.declared.answers.Delivered.TheVariants.{Refused}
 use Rattle.sal_receiver.specs.declared.answers.Refuse.TheVariants.{Wire, Kind}
 use Rattle.sal_receiver.specs.Past.{Deliver}
@@ -11,11 +11,11 @@ use Rattle.sal_receiver.proofs.receiver.Receiver.deliver.Goals as goal
 pub returns-in-Err-clause-answered : goal.returns-in-Err-clause-answered
 returns-in-Err-clause-answered g c = λ past s.
     subst (λ came. Answers g.C.Codec.coding (Deliver came c.args.moment (Refused (Wire c.in-Err.fault))) past × Stands g.C.Codec.coding c.args.self.now (Deliver came c.args.moment (Refused (Wire c.in-Err.fault)) ∷ past))
-    (sym (ap seen c.in-Err.is) ∙ c.read.ensures.first)
+    (sym (ap as_message c.in-Err.is) ∙ c.read.ensures.first)
     (refused g.C.Codec.coding c.args.self.now _ c.args.moment (Wire c.in-Err.fault) past s refl)
 
 pub returns-in-Ok-Ack-clause-answered : goal.returns-in-Ok-Ack-clause-answered
 returns-in-Ok-Ack-clause-answered g c = λ past s.
     subst (λ came. Answers g.C.Codec.coding (Deliver came c.args.moment (Refused Kind)) past × Stands g.C.Codec.coding c.args.self.now (Deliver came c.args.moment (Refused Kind) ∷ past))
-    (sym (ap (λ d. seen (Rattle.std.proofs.Common.Ok d)) c.in-Ok-Ack.field-0-is) ∙ (sym (ap seen c.in-Ok-Ack.is) ∙ c.read.ensures.first))
-    (refused g.C.Codec.coding c.args.self.now (Rattle.std.proofs.Common.Ok (Report c.in-Ok-Ack.field-0-0)) c.args.moment Kind past s refl)
+    (sym (ap (λ d. as_message (Rattle.std.proofs.Common.Ok d)) c.in-Ok-Ack.field-0-is) ∙ (sym (ap as_message c.in-Ok-Ack.is) ∙ c.read.ensures.first))
+    (refused g.C.Codec.coding c.args.self.now (Rattle.std.proofs.Common.Ok (AckMessage c.in-Ok-Ack.field-0-0)) c.args.moment Kind past s refl)

@@ -1,6 +1,6 @@
 use Rattle.std.proofs.Common.{◌≤◌, map, ap, sym, ◌∙◌, subst}
-use Rattle.sal_chain.specs.Held.{placed}
-use Rattle.sal_receiver.specs.Pending.{seen, without, wanting}
+use Rattle.sal_chain.specs.Held.{inserted}
+use Rattle.sal_receiver.specs.Pending.{frame_unshared, without, wanting}
 use Rattle.sal_receiver.proofs.SeenLemmas.{without_seen, wanting_seen}
 use Rattle.sal_receiver.proofs.BookLemmas.{held_book}
 use Rattle.sal_receiver.proofs.receiver.Receiver.hold.Goals as goal
@@ -11,6 +11,6 @@ feed-state-requires g c =
 
 pub returns : goal.returns
 returns g c =
-    held_book c.args.self.now c.self.inside.line c.self.inside.slots c.self.inside.store c.add.new.self (map seen c.self.inside.frames.items) (map seen c.remove.new.items.items) c.self.inside.last c.args.number c.args.name c.args.shares.state c.self.view_is
-    (c.add.ensures ∙ ap (λ s. record { floor = c.self.inside.store.floor; kept = placed (record { number = c.args.number; name = c.args.name; state = s }) c.self.inside.store.kept }) c.feed-state.ensures.share)
-    (ap (λ xs. map seen xs) c.remove.ensures ∙ (without_seen c.args.number c.feed-state.new.items.items ∙ ap (λ xs. without c.args.number xs) c.feed-state.ensures.fed))
+    held_book c.args.self.now c.self.inside.known c.self.inside.slots c.self.inside.store c.add.new.self (map frame_unshared c.self.inside.frames.items) (map frame_unshared c.remove.new.items.items) c.self.inside.last c.args.number c.args.name c.args.shares.state c.self.view_is
+    (c.add.ensures ∙ ap (λ s. record { floor = c.self.inside.store.floor; kept = inserted (record { number = c.args.number; name = c.args.name; state = s }) c.self.inside.store.kept }) c.feed-state.ensures.share)
+    (ap (λ xs. map frame_unshared xs) c.remove.ensures ∙ (without_seen c.args.number c.feed-state.new.items.items ∙ ap (λ xs. without c.args.number xs) c.feed-state.ensures.fed))

@@ -1,32 +1,19 @@
-use Rattle.std.proofs.Common.{◌≡◌, ◌+◌, ◌≤◌, ◌∷◌, [], ◌++◌, sym, ap, ◌∙◌, length, refl, arith, vec_len, vec_capacity}
-use Rattle.std.proofs.lemmas.List.{append-nil}
-use Rattle.sal_sender.specs.declared.answers.Chosen.TheVariants.{NoPicture, Waiting, Sent, Nothing, Memory}
-use Rattle.sal_world.proofs.ChoiceSteps.{sent_short, chosen_happens, chosen_kept, on_ok}
+use Rattle.sal_world.specs.World.{Chooses, after}
+use Rattle.sal_world.proofs.Stepped.{lifted_unless, counted_choice}
 use Rattle.sal_world.proofs.world.World.choose.Goals as goal
 
-pub move_to-requires : goal.move_to-requires
-move_to-requires g c =
-    let short : length c.in-Sent.burst ≤ 4096 = sent_short g.C.Codec.coding c.requires.0 _ c.args.self.now c.choose.new.self c.requires.1.0 c.in-Sent.choice c.in-Sent.burst c.choose.result c.self.view_is c.requires.1.1 c.choose.ensures.answered c.in-Sent.is in
-    let room : vec_len c.reserve.new.self + 4096 ≤ vec_capacity c.reserve.new.self = on_ok c.reserve.result _ (sym c.is_err.ensures.value ∙ c.if-is_err.false) c.reserve.ensures.ok in
-    omega arith
+pub send-requires-clause-world : goal.send-requires-clause-world
+send-requires-clause-world g c κs within = (c.requires.stands.0, (after g.C.Codec.coding c.requires.stands.0 c.requires.stands.1.0, c.requires.stands.1.1.world))
 
-pub returns-in-Sent-clause-answered : goal.returns-in-Sent-clause-answered
-returns-in-Sent-clause-answered g c session w is = chosen_happens g.C.Codec.coding session _ c.args.self.now c.choose.new.self c.move_to.new.sent.items w c.choose.result (Sent c.in-Sent.choice c.in-Sent.burst) _ c.self.view_is is c.choose.ensures.answered c.choose.ensures.session c.in-Sent.is (λ (q : Sent c.in-Sent.choice c.in-Sent.burst ≡ Memory). cc) refl (c.move_to.ensures ∙ ap (λ v. v ++ c.in-Sent.burst) c.reserve.ensures.items)
+pub returns-clause-answered : goal.returns-clause-answered
+returns-clause-answered g c session events stands =
+    lifted_unless g.C.Codec.coding session c.args.self.now _ events Chooses _ _ _ stands tt (c.send.ensures.answered session (after g.C.Codec.coding session events) stands.world)
 
-pub returns-in-NoPicture-clause-answered : goal.returns-in-NoPicture-clause-answered
-returns-in-NoPicture-clause-answered g c session w is = chosen_happens g.C.Codec.coding session _ c.args.self.now c.choose.new.self c.reserve.new.self.items w c.choose.result NoPicture _ c.self.view_is is c.choose.ensures.answered c.choose.ensures.session c.in-NoPicture.is (λ (q : NoPicture ≡ Memory). cc) refl (c.reserve.ensures.items ∙ sym (append-nil c.self.inside.sent.items))
+pub returns-clause-counted : goal.returns-clause-counted
+returns-clause-counted g c choice is =
+    let world = c.requires.stands.1.1.world in
+    counted_choice g.C.Codec.coding c.requires.stands.0 c.args.self.now c.send.new.self c.requires.stands.1.0 choice c.send.result is c.requires.stands.1.1
+    (c.send.ensures.answered c.requires.stands.0 (after g.C.Codec.coding c.requires.stands.0 c.requires.stands.1.0) world)
 
-pub returns-in-Waiting-clause-answered : goal.returns-in-Waiting-clause-answered
-returns-in-Waiting-clause-answered g c session w is = chosen_happens g.C.Codec.coding session _ c.args.self.now c.choose.new.self c.reserve.new.self.items w c.choose.result (Waiting c.in-Waiting.id) _ c.self.view_is is c.choose.ensures.answered c.choose.ensures.session c.in-Waiting.is (λ (q : Waiting c.in-Waiting.id ≡ Memory). cc) refl (c.reserve.ensures.items ∙ sym (append-nil c.self.inside.sent.items))
-
-pub returns-in-Nothing-clause-answered : goal.returns-in-Nothing-clause-answered
-returns-in-Nothing-clause-answered g c session w is = chosen_happens g.C.Codec.coding session _ c.args.self.now c.choose.new.self c.reserve.new.self.items w c.choose.result (Nothing c.in-Nothing.budget c.in-Nothing.sizes) _ c.self.view_is is c.choose.ensures.answered c.choose.ensures.session c.in-Nothing.is (λ (q : Nothing c.in-Nothing.budget c.in-Nothing.sizes ≡ Memory). cc) refl (c.reserve.ensures.items ∙ sym (append-nil c.self.inside.sent.items))
-
-pub returns-in-NoPicture-clause-refused : goal.returns-in-NoPicture-clause-refused
-returns-in-NoPicture-clause-refused g c = chosen_kept _ c.args.self.now c.choose.new.self c.reserve.new.self.items c.choose.result NoPicture c.self.view_is c.reserve.ensures.items c.choose.ensures.refused c.in-NoPicture.is
-
-pub returns-in-Waiting-clause-refused : goal.returns-in-Waiting-clause-refused
-returns-in-Waiting-clause-refused g c = chosen_kept _ c.args.self.now c.choose.new.self c.reserve.new.self.items c.choose.result (Waiting c.in-Waiting.id) c.self.view_is c.reserve.ensures.items c.choose.ensures.refused c.in-Waiting.is
-
-pub returns-in-Memory-clause-refused : goal.returns-in-Memory-clause-refused
-returns-in-Memory-clause-refused g c = λ h. chosen_kept _ c.args.self.now c.choose.new.self c.reserve.new.self.items c.choose.result Memory c.self.view_is c.reserve.ensures.items c.choose.ensures.refused c.in-Memory.is refl
+pub returns-clause-promises : goal.returns-clause-promises
+returns-clause-promises g c session events stands = c.keeps_every_promise.ensures session stands.session_is events stands.sizes

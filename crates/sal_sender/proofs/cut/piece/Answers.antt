@@ -1,5 +1,0 @@
-use Rattle.sal_sender.proofs.Bursts.{piece_cut}
-use Rattle.sal_sender.proofs.cut.piece.Goals as goal
-
-pub returns : goal.returns
-returns c = piece_cut c.args.bytes.now c.args.index c.min.result c.min.ensures

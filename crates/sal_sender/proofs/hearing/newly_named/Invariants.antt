@@ -1,5 +1,0 @@
-use Rattle.sal_sender.proofs.NewlyNamed.{IsSoFar}
-use Rattle.sal_sender.proofs.hearing.newly_named.Given as goal
-
-abbrev pub invariant-loop-h : goal.invariant-loop-h
-invariant-loop-h l = IsSoFar l.links l.floor l.held l.h-index l.numbers

@@ -1,5 +1,0 @@
-use Rattle.sal_sender.proofs.Near.{longer_is}
-use Rattle.sal_sender.proofs.taken.longer.Goals as goal
-
-pub returns : goal.returns
-returns c = longer_is c.args.choice c.args.links.now _ _ _ c.in_ok-insert.ensures.items c.keep_from.ensures c.in_ok-longer.ensures.items
