@@ -1,8 +1,11 @@
 pub mod BitExamples
+pub mod Bounds
 pub mod Finishing
 pub mod Laws
 pub mod Meaning
 pub mod Places
+pub mod Putting
+pub mod ReadBack
 pub mod Sending
 pub mod Settling
 pub mod Standing

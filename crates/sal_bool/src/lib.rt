@@ -5,10 +5,12 @@ mod carry;
 mod decoder;
 mod encoder;
 mod range;
+mod sizes;
 mod tree;
 
 pub use decoder::Decoder;
 pub use encoder::Encoder;
+pub use sizes::written_in_few_bytes;
 
 #[cfg(test)]
 mod tests;

@@ -37,8 +37,8 @@ fn one_bit_in_two_bytes(rt: HostRuntime) {
 fn past_the_end_are_zero_bytes(rt: HostRuntime) {
     let mut short = Decoder::new(&[0xa7]);
     let mut long = Decoder::new(&[0xa7, 0, 0, 0, 0, 0, 0, 0]);
-    for _ in 0..40u32 {
-        assert_eq!(rt; short.bit(117), long.bit(117));
+    for place in 0..40u32 {
+        assert_eq!(rt; short.bit(117), long.bit(117), "bit {place}");
     }
     let mut none = Decoder::new(&[]);
     assert_eq!(rt; none.literal(24), 0);

@@ -17,12 +17,12 @@ use Rattle.sal_header.specs.Headers.{header_over, header_made, segments, segment
 use Rattle.sal_macroblock.specs.Macroblocks.{outside}
 use Rattle.sal_transform.specs.Hadamard.{inverse_y2_of, sum_0, sum_1, sum_2, sum_3, eighth}
 use Rattle.sal_transform.specs.Residue.{residue_of, residue_after, firsts_of}
-use Rattle.sal_transform.specs.Steps.{dequantised, steps_of}
+use Rattle.sal_transform.specs.Factors.{dequantised, factors_of}
 use Rattle.sal_transform.specs.Inverse.{inverse_of, scaled, rounded, out_0, out_1, out_2, out_3}
 use Rattle.sal_intra.specs.Edges.{luma_edge_of, chroma_edge_of, sub_edge_of}
 use Rattle.sal_intra.specs.Sub.{sub_sample, right_rows, left_rows, down_rows, up_rows}
 use Rattle.sal_inter.specs.Inter.{inter_sample, interpolated, six_sum}
-use Rattle.sal_filter.specs.Edges.{place_filtered, simple, inner, outer, lost, gained, half_lost, part}
+use Rattle.sal_filter.specs.Edges.{place_filtered, simple, inner, outer, q0_adjustment, p0_adjustment, q1_adjustment, part}
 use Rattle.sal_filter.specs.Limits.{level_of, limits_of, interior_of, threshold_of}
 use Rattle.sal_filter.specs.Filtered.{filtered, all_filtered, mb_filtered, edge_filtered, place_put}
 use Rattle.sal_modes.specs.IntraModes.{intra_mode, sub_modes, sub_row}
@@ -31,11 +31,11 @@ use Rattle.sal_modes.specs.ReadVectors.{read_vector, component, long_size, bits_
 use Rattle.sal_modes.specs.Near.{near_of, noted, put_motion}
 use Rattle.sal_modes.specs.Modes.{mb_mode, inter_mode}
 use Rattle.sal_tokens.specs.Blocks.{macroblock, blocks, places}
-use Rattle.sal_tokens.specs.Levels.{block, levels, token_size, token_row}
+use Rattle.sal_tokens.specs.Coefficients.{block, coefficients, token_size, token_row}
 use Rattle.sal_state.specs.States.{initial_state, initial_kept}
 use Rattle.sal_frame.specs.Built.{built, all_built, one_built, luma_built, chroma_built, subs_built}
-use Rattle.sal_frame.specs.Records.{segment_steps, filter_head, info_of}
-use Rattle.sal_frame.specs.Residues.{luma_residues, chroma_residues, firsts}
+use Rattle.sal_frame.specs.Records.{segment_factors, filter_head, info_of}
+use Rattle.sal_transform.specs.Residues.{chroma_residues_of, firsts, luma_residues_of}
 use Rattle.sal_frame.specs.After.{decoded_of, state_after, picture_of, planes_of}
 use Rattle.sal_decode.specs.Decode.{decode_of}
 use Rattle.sal_decode.specs.Syntax.{frame_of, record_of}
@@ -102,22 +102,22 @@ first_part = refl
 
 -- four token partitions, and one byte of the table of their sizes is missing
 sizes_missing : IsFault (be_bytes 25 0xf000009d012a10001000000200000000000100000200000000) (Partition 0)
-unfolding IsFault decode_of frame_of record_of tag_of sides_of first_part_of parts_of placed first_partition read widen next ◌>>=◌ number literal signed_literal each walk update_coefficients_of update_rows update_vectors_of header_over header_made segments segment_data filtering filter_deltas quantisers key_refreshing inter_refreshing coefficient_updates vector_updates inter_modes no_inter_modes modes initial_state initial_kept initial_table default_coefficients_of default_rows default_vectors_of inter_y_probabilities_of inter_chroma_probabilities_of key_y_probabilities_of key_chroma_probabilities_of inter_subblock_probabilities_of subblock_probabilities_of split_probabilities_of vector_mode_probabilities_of sub_vector_probabilities_of mb_modes mb_mode intra_mode sub_modes sub_row inter_mode near_of noted put_motion read_vector component long_size bits_at split_vectors sub_vector parts outside segment_entries key_y_entries inter_y_entries chroma_entries subblock_entries vector_mode_entries split_entries sub_vector_entries short_vector_entries token_entries with_segments macroblocks tokens_of macroblock blocks places block levels token_size token_row bands_of category_bases_of category_bits_of listed_from
+unfolding IsFault decode_of frame_of record_of tag_of sides_of first_part_of parts_of placed first_partition read widen next ◌>>=◌ number literal signed_literal each walk update_coefficients_of update_rows update_vectors_of header_over header_made segments segment_data filtering filter_deltas quantisers key_refreshing inter_refreshing coefficient_updates vector_updates inter_modes no_inter_modes modes initial_state initial_kept initial_table default_coefficients_of default_rows default_vectors_of inter_y_probabilities_of inter_chroma_probabilities_of key_y_probabilities_of key_chroma_probabilities_of inter_subblock_probabilities_of subblock_probabilities_of split_probabilities_of vector_mode_probabilities_of sub_vector_probabilities_of mb_modes mb_mode intra_mode sub_modes sub_row inter_mode near_of noted put_motion read_vector component long_size bits_at split_vectors sub_vector parts outside segment_entries key_y_entries inter_y_entries chroma_entries subblock_entries vector_mode_entries split_entries sub_vector_entries short_vector_entries token_entries with_segments macroblocks tokens_of macroblock blocks places block coefficients token_size token_row bands_of category_bases_of category_bits_of listed_from
 sizes_missing = refl
 
 -- none of the first partition's byte is there
 partition_0 : IsFault (be_bytes 26 0xf000009d012a1000100000020000000000010000020000000000) (Partition 0)
-unfolding IsFault decode_of frame_of record_of tag_of sides_of first_part_of parts_of placed first_partition read widen next ◌>>=◌ number literal signed_literal each walk update_coefficients_of update_rows update_vectors_of header_over header_made segments segment_data filtering filter_deltas quantisers key_refreshing inter_refreshing coefficient_updates vector_updates inter_modes no_inter_modes modes initial_state initial_kept initial_table default_coefficients_of default_rows default_vectors_of inter_y_probabilities_of inter_chroma_probabilities_of key_y_probabilities_of key_chroma_probabilities_of inter_subblock_probabilities_of subblock_probabilities_of split_probabilities_of vector_mode_probabilities_of sub_vector_probabilities_of mb_modes mb_mode intra_mode sub_modes sub_row inter_mode near_of noted put_motion read_vector component long_size bits_at split_vectors sub_vector parts outside segment_entries key_y_entries inter_y_entries chroma_entries subblock_entries vector_mode_entries split_entries sub_vector_entries short_vector_entries token_entries with_segments macroblocks tokens_of macroblock blocks places block levels token_size token_row bands_of category_bases_of category_bits_of listed_from
+unfolding IsFault decode_of frame_of record_of tag_of sides_of first_part_of parts_of placed first_partition read widen next ◌>>=◌ number literal signed_literal each walk update_coefficients_of update_rows update_vectors_of header_over header_made segments segment_data filtering filter_deltas quantisers key_refreshing inter_refreshing coefficient_updates vector_updates inter_modes no_inter_modes modes initial_state initial_kept initial_table default_coefficients_of default_rows default_vectors_of inter_y_probabilities_of inter_chroma_probabilities_of key_y_probabilities_of key_chroma_probabilities_of inter_subblock_probabilities_of subblock_probabilities_of split_probabilities_of vector_mode_probabilities_of sub_vector_probabilities_of mb_modes mb_mode intra_mode sub_modes sub_row inter_mode near_of noted put_motion read_vector component long_size bits_at split_vectors sub_vector parts outside segment_entries key_y_entries inter_y_entries chroma_entries subblock_entries vector_mode_entries split_entries sub_vector_entries short_vector_entries token_entries with_segments macroblocks tokens_of macroblock blocks places block coefficients token_size token_row bands_of category_bases_of category_bits_of listed_from
 partition_0 = refl
 
 -- one of the second partition's two bytes is there
 partition_1 : IsFault (be_bytes 28 0xf000009d012a10001000000200000000000100000200000500000000) (Partition 1)
-unfolding IsFault decode_of frame_of record_of tag_of sides_of first_part_of parts_of placed first_partition read widen next ◌>>=◌ number literal signed_literal each walk update_coefficients_of update_rows update_vectors_of header_over header_made segments segment_data filtering filter_deltas quantisers key_refreshing inter_refreshing coefficient_updates vector_updates inter_modes no_inter_modes modes initial_state initial_kept initial_table default_coefficients_of default_rows default_vectors_of inter_y_probabilities_of inter_chroma_probabilities_of key_y_probabilities_of key_chroma_probabilities_of inter_subblock_probabilities_of subblock_probabilities_of split_probabilities_of vector_mode_probabilities_of sub_vector_probabilities_of mb_modes mb_mode intra_mode sub_modes sub_row inter_mode near_of noted put_motion read_vector component long_size bits_at split_vectors sub_vector parts outside segment_entries key_y_entries inter_y_entries chroma_entries subblock_entries vector_mode_entries split_entries sub_vector_entries short_vector_entries token_entries with_segments macroblocks tokens_of macroblock blocks places block levels token_size token_row bands_of category_bases_of category_bits_of listed_from
+unfolding IsFault decode_of frame_of record_of tag_of sides_of first_part_of parts_of placed first_partition read widen next ◌>>=◌ number literal signed_literal each walk update_coefficients_of update_rows update_vectors_of header_over header_made segments segment_data filtering filter_deltas quantisers key_refreshing inter_refreshing coefficient_updates vector_updates inter_modes no_inter_modes modes initial_state initial_kept initial_table default_coefficients_of default_rows default_vectors_of inter_y_probabilities_of inter_chroma_probabilities_of key_y_probabilities_of key_chroma_probabilities_of inter_subblock_probabilities_of subblock_probabilities_of split_probabilities_of vector_mode_probabilities_of sub_vector_probabilities_of mb_modes mb_mode intra_mode sub_modes sub_row inter_mode near_of noted put_motion read_vector component long_size bits_at split_vectors sub_vector parts outside segment_entries key_y_entries inter_y_entries chroma_entries subblock_entries vector_mode_entries split_entries sub_vector_entries short_vector_entries token_entries with_segments macroblocks tokens_of macroblock blocks places block coefficients token_size token_row bands_of category_bases_of category_bits_of listed_from
 partition_1 = refl
 
 -- none of the third partition's bytes is there
 partition_2 : IsFault (be_bytes 29 0xf000009d012a1000100000020000000000010000020000000100000000) (Partition 2)
-unfolding IsFault decode_of frame_of record_of tag_of sides_of first_part_of parts_of placed first_partition read widen next ◌>>=◌ number literal signed_literal each walk update_coefficients_of update_rows update_vectors_of header_over header_made segments segment_data filtering filter_deltas quantisers key_refreshing inter_refreshing coefficient_updates vector_updates inter_modes no_inter_modes modes initial_state initial_kept initial_table default_coefficients_of default_rows default_vectors_of inter_y_probabilities_of inter_chroma_probabilities_of key_y_probabilities_of key_chroma_probabilities_of inter_subblock_probabilities_of subblock_probabilities_of split_probabilities_of vector_mode_probabilities_of sub_vector_probabilities_of mb_modes mb_mode intra_mode sub_modes sub_row inter_mode near_of noted put_motion read_vector component long_size bits_at split_vectors sub_vector parts outside segment_entries key_y_entries inter_y_entries chroma_entries subblock_entries vector_mode_entries split_entries sub_vector_entries short_vector_entries token_entries with_segments macroblocks tokens_of macroblock blocks places block levels token_size token_row bands_of category_bases_of category_bits_of listed_from
+unfolding IsFault decode_of frame_of record_of tag_of sides_of first_part_of parts_of placed first_partition read widen next ◌>>=◌ number literal signed_literal each walk update_coefficients_of update_rows update_vectors_of header_over header_made segments segment_data filtering filter_deltas quantisers key_refreshing inter_refreshing coefficient_updates vector_updates inter_modes no_inter_modes modes initial_state initial_kept initial_table default_coefficients_of default_rows default_vectors_of inter_y_probabilities_of inter_chroma_probabilities_of key_y_probabilities_of key_chroma_probabilities_of inter_subblock_probabilities_of subblock_probabilities_of split_probabilities_of vector_mode_probabilities_of sub_vector_probabilities_of mb_modes mb_mode intra_mode sub_modes sub_row inter_mode near_of noted put_motion read_vector component long_size bits_at split_vectors sub_vector parts outside segment_entries key_y_entries inter_y_entries chroma_entries subblock_entries vector_mode_entries split_entries sub_vector_entries short_vector_entries token_entries with_segments macroblocks tokens_of macroblock blocks places block coefficients token_size token_row bands_of category_bases_of category_bits_of listed_from
 partition_2 = refl
 
 first_planes : Planes
@@ -131,11 +131,11 @@ empty_key = be_bytes 10 0x1000009d012a10001000
 
 -- every bit is 0: the macroblock is in mode B, its subblocks in bDC
 first : decode_of initial_state empty_key ≡ Ok (record { state = first_state; picture = record { width = 16; height = 16; y = first_planes.y; u = first_planes.u; v = first_planes.v }; shown = true })
-unfolding first_state empty_key first_planes decode_of frame_of record_of tag_of sides_of first_part_of parts_of placed first_partition read widen next ◌>>=◌ number literal signed_literal each walk update_coefficients_of update_rows update_vectors_of header_over header_made segments segment_data filtering filter_deltas quantisers key_refreshing inter_refreshing coefficient_updates vector_updates inter_modes no_inter_modes modes initial_state initial_kept initial_table default_coefficients_of default_rows default_vectors_of inter_y_probabilities_of inter_chroma_probabilities_of key_y_probabilities_of key_chroma_probabilities_of inter_subblock_probabilities_of subblock_probabilities_of split_probabilities_of vector_mode_probabilities_of sub_vector_probabilities_of mb_modes mb_mode intra_mode sub_modes sub_row inter_mode near_of noted put_motion read_vector component long_size bits_at split_vectors sub_vector parts outside segment_entries key_y_entries inter_y_entries chroma_entries subblock_entries vector_mode_entries split_entries sub_vector_entries short_vector_entries token_entries with_segments macroblocks tokens_of macroblock blocks places block levels token_size token_row bands_of category_bases_of category_bits_of listed_from built all_built one_built luma_built chroma_built subs_built luma_residues chroma_residues firsts residue_of residue_after firsts_of inverse_of inverse_y2_of dequantised zigzag_of scaled rounded out_0 out_1 out_2 out_3 sum_0 sum_1 sum_2 sum_3 eighth segment_steps steps_of dc_steps_of ac_steps_of luma_edge_of chroma_edge_of sub_edge_of sub_sample right_rows left_rows down_rows up_rows inter_sample interpolated six_sum six_taps_of rows_put filtered all_filtered mb_filtered edge_filtered place_put place_filtered simple inner outer lost gained half_lost part level_of limits_of interior_of threshold_of filter_head info_of decoded_of state_after picture_of planes_of rows_cut
+unfolding first_state empty_key first_planes decode_of frame_of record_of tag_of sides_of first_part_of parts_of placed first_partition read widen next ◌>>=◌ number literal signed_literal each walk update_coefficients_of update_rows update_vectors_of header_over header_made segments segment_data filtering filter_deltas quantisers key_refreshing inter_refreshing coefficient_updates vector_updates inter_modes no_inter_modes modes initial_state initial_kept initial_table default_coefficients_of default_rows default_vectors_of inter_y_probabilities_of inter_chroma_probabilities_of key_y_probabilities_of key_chroma_probabilities_of inter_subblock_probabilities_of subblock_probabilities_of split_probabilities_of vector_mode_probabilities_of sub_vector_probabilities_of mb_modes mb_mode intra_mode sub_modes sub_row inter_mode near_of noted put_motion read_vector component long_size bits_at split_vectors sub_vector parts outside segment_entries key_y_entries inter_y_entries chroma_entries subblock_entries vector_mode_entries split_entries sub_vector_entries short_vector_entries token_entries with_segments macroblocks tokens_of macroblock blocks places block coefficients token_size token_row bands_of category_bases_of category_bits_of listed_from built all_built one_built luma_built chroma_built subs_built luma_residues_of chroma_residues_of firsts residue_of residue_after firsts_of inverse_of inverse_y2_of dequantised zigzag_of scaled rounded out_0 out_1 out_2 out_3 sum_0 sum_1 sum_2 sum_3 eighth segment_factors factors_of dc_steps_of ac_steps_of luma_edge_of chroma_edge_of sub_edge_of sub_sample right_rows left_rows down_rows up_rows inter_sample interpolated six_sum six_taps_of rows_put filtered all_filtered mb_filtered edge_filtered place_put place_filtered simple inner outer q0_adjustment p0_adjustment q1_adjustment part level_of limits_of interior_of threshold_of filter_head info_of decoded_of state_after picture_of planes_of rows_cut
 first = refl
 
 -- an inter frame whose every bit is 0 is intra in DC, and leaves the state as it was
 second : decode_of first_state (be_bytes 3 0x110000)
     ≡ Ok (record { state = first_state; picture = record { width = 16; height = 16; y = plane 16 16 (replicate 256 128); u = plane 8 8 (replicate 64 128); v = plane 8 8 (replicate 64 128) }; shown = true })
-unfolding first_state first_planes decode_of frame_of record_of tag_of sides_of first_part_of parts_of placed first_partition read widen next ◌>>=◌ number literal signed_literal each walk update_coefficients_of update_rows update_vectors_of header_over header_made segments segment_data filtering filter_deltas quantisers key_refreshing inter_refreshing coefficient_updates vector_updates inter_modes no_inter_modes modes initial_state initial_kept initial_table default_coefficients_of default_rows default_vectors_of inter_y_probabilities_of inter_chroma_probabilities_of key_y_probabilities_of key_chroma_probabilities_of inter_subblock_probabilities_of subblock_probabilities_of split_probabilities_of vector_mode_probabilities_of sub_vector_probabilities_of mb_modes mb_mode intra_mode sub_modes sub_row inter_mode near_of noted put_motion read_vector component long_size bits_at split_vectors sub_vector parts outside segment_entries key_y_entries inter_y_entries chroma_entries subblock_entries vector_mode_entries split_entries sub_vector_entries short_vector_entries token_entries with_segments macroblocks tokens_of macroblock blocks places block levels token_size token_row bands_of category_bases_of category_bits_of listed_from built all_built one_built luma_built chroma_built subs_built luma_residues chroma_residues firsts residue_of residue_after firsts_of inverse_of inverse_y2_of dequantised zigzag_of scaled rounded out_0 out_1 out_2 out_3 sum_0 sum_1 sum_2 sum_3 eighth segment_steps steps_of dc_steps_of ac_steps_of luma_edge_of chroma_edge_of sub_edge_of sub_sample right_rows left_rows down_rows up_rows inter_sample interpolated six_sum six_taps_of rows_put filtered all_filtered mb_filtered edge_filtered place_put place_filtered simple inner outer lost gained half_lost part level_of limits_of interior_of threshold_of filter_head info_of decoded_of state_after picture_of planes_of rows_cut
+unfolding first_state first_planes decode_of frame_of record_of tag_of sides_of first_part_of parts_of placed first_partition read widen next ◌>>=◌ number literal signed_literal each walk update_coefficients_of update_rows update_vectors_of header_over header_made segments segment_data filtering filter_deltas quantisers key_refreshing inter_refreshing coefficient_updates vector_updates inter_modes no_inter_modes modes initial_state initial_kept initial_table default_coefficients_of default_rows default_vectors_of inter_y_probabilities_of inter_chroma_probabilities_of key_y_probabilities_of key_chroma_probabilities_of inter_subblock_probabilities_of subblock_probabilities_of split_probabilities_of vector_mode_probabilities_of sub_vector_probabilities_of mb_modes mb_mode intra_mode sub_modes sub_row inter_mode near_of noted put_motion read_vector component long_size bits_at split_vectors sub_vector parts outside segment_entries key_y_entries inter_y_entries chroma_entries subblock_entries vector_mode_entries split_entries sub_vector_entries short_vector_entries token_entries with_segments macroblocks tokens_of macroblock blocks places block coefficients token_size token_row bands_of category_bases_of category_bits_of listed_from built all_built one_built luma_built chroma_built subs_built luma_residues_of chroma_residues_of firsts residue_of residue_after firsts_of inverse_of inverse_y2_of dequantised zigzag_of scaled rounded out_0 out_1 out_2 out_3 sum_0 sum_1 sum_2 sum_3 eighth segment_factors factors_of dc_steps_of ac_steps_of luma_edge_of chroma_edge_of sub_edge_of sub_sample right_rows left_rows down_rows up_rows inter_sample interpolated six_sum six_taps_of rows_put filtered all_filtered mb_filtered edge_filtered place_put place_filtered simple inner outer q0_adjustment p0_adjustment q1_adjustment part level_of limits_of interior_of threshold_of filter_head info_of decoded_of state_after picture_of planes_of rows_cut
 second = refl

@@ -23,27 +23,6 @@ use Rattle.sal_decode.specs.Decode.{decode_of}
 use Rattle.sal_decode.specs.FirstPartition.{mb_modes}
 use Rattle.sal_decode.specs.Syntax.{frame_of, record_of, ◌>>=◌}
 
-pub filtered_planes : (r : Option References) (f : Record) (h : Header) (infos : List MbInfo) (before after : Planes) → f.header ≡ h → before ≡ built r f → infos ≡ map info_of f.blocks
-    → after ≡ filtered (filter_head h) infos before → after ≡ planes_of r f
-unfolding planes_of
-filtered_planes r f h infos before after header was noted is =
-    is ∙ (ap (λ x. filtered (filter_head x) infos before) (sym header)
-    ∙ (ap (λ x. filtered (filter_head f.header) x before) noted
-    ∙ ap (λ x. filtered (filter_head f.header) (map info_of f.blocks) x) was))
-
-pub cut_picture : (s : StateData) (f : Record) (width height : ℕ) (planes : Planes) (picture : Picture) → f.width ≡ width → f.height ≡ height → planes ≡ planes_of s.references f → picture ≡ cropped width height planes → picture ≡ picture_of s f
-unfolding picture_of
-cut_picture s f width height planes picture wide high are is =
-    is ∙ (ap (λ n. cropped n height planes) (sym wide) ∙ (ap (λ n. cropped f.width n planes) (sym high) ∙ ap (λ p. cropped f.width f.height p) are))
-
-pub all_of_it : (s next : StateData) (f : Record) (picture : Picture) (shown : Bool) → next ≡ state_after s f → picture ≡ picture_of s f → shown ≡ f.header.shown
-    → record { state = next; picture = picture; shown = shown } ≡ decoded_of s f
-unfolding decoded_of
-all_of_it s next f picture shown a b c =
-    ap (λ x. let d : Decoded StateData = record { state = x; picture = picture; shown = shown } in d) a
-    ∙ (ap (λ x. let d : Decoded StateData = record { state = state_after s f; picture = x; shown = shown } in d) b
-    ∙ ap (λ x. let d : Decoded StateData = record { state = state_after s f; picture = picture_of s f; shown = x } in d) c)
-
 -- a frame's record has its header and size
 pub record_width : (s : StateData) (bytes : List ℕ) (size : ℕ × ℕ) (parts : List (ℕ × ℕ)) (x : Header × List MbMode) → (record_of s bytes size parts x).width ≡ size.0
 unfolding record_of

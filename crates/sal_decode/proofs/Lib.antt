@@ -3,8 +3,8 @@ mod Finished
 mod FrameRead
 mod Going
 mod HeadRead
-mod MapAfter
 mod ModesRead
 mod SmallFrames
 mod TokensRead
 mod WholeFrames
+mod FourFactors

@@ -15,12 +15,12 @@ use Rattle.sal_header.specs.Headers.{header_over, header_made, segments, segment
 use Rattle.sal_macroblock.specs.Macroblocks.{outside}
 use Rattle.sal_transform.specs.Hadamard.{inverse_y2_of, sum_0, sum_1, sum_2, sum_3, eighth}
 use Rattle.sal_transform.specs.Residue.{residue_of, residue_after, firsts_of}
-use Rattle.sal_transform.specs.Steps.{dequantised, steps_of}
+use Rattle.sal_transform.specs.Factors.{dequantised, factors_of}
 use Rattle.sal_transform.specs.Inverse.{inverse_of, scaled, rounded, out_0, out_1, out_2, out_3}
 use Rattle.sal_intra.specs.Edges.{luma_edge_of, chroma_edge_of, sub_edge_of}
 use Rattle.sal_intra.specs.Sub.{sub_sample, right_rows, left_rows, down_rows, up_rows}
 use Rattle.sal_inter.specs.Inter.{inter_sample, interpolated, six_sum}
-use Rattle.sal_filter.specs.Edges.{place_filtered, simple, inner, outer, lost, gained, half_lost, part}
+use Rattle.sal_filter.specs.Edges.{place_filtered, simple, inner, outer, q0_adjustment, p0_adjustment, q1_adjustment, part}
 use Rattle.sal_filter.specs.Limits.{level_of, limits_of, interior_of, threshold_of}
 use Rattle.sal_filter.specs.Filtered.{filtered, all_filtered, mb_filtered, edge_filtered, place_put}
 use Rattle.sal_modes.specs.IntraModes.{intra_mode, sub_modes, sub_row}
@@ -29,18 +29,18 @@ use Rattle.sal_modes.specs.ReadVectors.{read_vector, component, long_size, bits_
 use Rattle.sal_modes.specs.Near.{near_of, noted, put_motion}
 use Rattle.sal_modes.specs.Modes.{mb_mode, inter_mode}
 use Rattle.sal_tokens.specs.Blocks.{macroblock, blocks, places}
-use Rattle.sal_tokens.specs.Levels.{block, levels, token_size, token_row}
+use Rattle.sal_tokens.specs.Coefficients.{block, coefficients, token_size, token_row}
 use Rattle.sal_state.specs.States.{initial_state, initial_kept}
 use Rattle.sal_frame.specs.Built.{built, all_built, one_built, luma_built, chroma_built, subs_built}
-use Rattle.sal_frame.specs.Records.{segment_steps, filter_head, info_of}
-use Rattle.sal_frame.specs.Residues.{luma_residues, chroma_residues, firsts}
+use Rattle.sal_frame.specs.Records.{segment_factors, filter_head, info_of}
+use Rattle.sal_transform.specs.Residues.{chroma_residues_of, firsts, luma_residues_of}
 use Rattle.sal_frame.specs.After.{decoded_of, state_after, picture_of, planes_of}
 use Rattle.sal_decode.specs.Decode.{decode_of}
 use Rattle.sal_decode.specs.Syntax.{frame_of, record_of}
 use Rattle.sal_decode.specs.FirstPartition.{first_partition, mb_modes, with_segments}
 use Rattle.sal_decode.specs.TokenPartitions.{macroblocks, tokens_of}
 
--- a key frame with segments, deltas of steps and of the filter, and a new coefficient probability
+-- a key frame with segments, deltas of factors and of the filter, and a new coefficient probability
 key_with_segments_bytes : List ℕ
 key_with_segments_bytes = be_bytes 90 0x1005009d012a100010003e5107ff54251fd7964e4478f4e121e222e323e424c6535355b74246d005107d616b7a92376f3380bf90854ab3b4155cef1c8d4f10cce8fd5b74bbbb119413e2b994c8c44bfa6a0ee646dcde0e6553c0
 
@@ -74,7 +74,7 @@ key_with_segments_state = record {
 }
 
 key_with_segments : decode_of initial_state key_with_segments_bytes ≡ Ok (record { state = key_with_segments_state; picture = record { width = 16; height = 16; y = key_with_segments_planes.y; u = key_with_segments_planes.u; v = key_with_segments_planes.v }; shown = true })
-unfolding decode_of frame_of record_of tag_of sides_of first_part_of parts_of placed first_partition read widen next ◌>>=◌ number literal signed_literal each walk update_coefficients_of update_rows update_vectors_of header_over header_made segments segment_data filtering filter_deltas quantisers key_refreshing inter_refreshing coefficient_updates vector_updates inter_modes no_inter_modes modes initial_state initial_kept initial_table default_coefficients_of default_rows default_vectors_of inter_y_probabilities_of inter_chroma_probabilities_of key_y_probabilities_of key_chroma_probabilities_of inter_subblock_probabilities_of subblock_probabilities_of split_probabilities_of vector_mode_probabilities_of sub_vector_probabilities_of mb_modes mb_mode intra_mode sub_modes sub_row inter_mode near_of noted put_motion read_vector component long_size bits_at split_vectors sub_vector parts outside segment_entries key_y_entries inter_y_entries chroma_entries subblock_entries vector_mode_entries split_entries sub_vector_entries short_vector_entries token_entries with_segments macroblocks tokens_of macroblock blocks places block levels token_size token_row bands_of category_bases_of category_bits_of listed_from built all_built one_built luma_built chroma_built subs_built luma_residues chroma_residues firsts residue_of residue_after firsts_of inverse_of inverse_y2_of dequantised zigzag_of scaled rounded out_0 out_1 out_2 out_3 sum_0 sum_1 sum_2 sum_3 eighth segment_steps steps_of dc_steps_of ac_steps_of luma_edge_of chroma_edge_of sub_edge_of sub_sample right_rows left_rows down_rows up_rows inter_sample interpolated six_sum six_taps_of rows_put filtered all_filtered mb_filtered edge_filtered place_put place_filtered simple inner outer lost gained half_lost part level_of limits_of interior_of threshold_of filter_head info_of decoded_of state_after picture_of planes_of rows_cut key_with_segments_bytes key_with_segments_state key_with_segments_planes
+unfolding decode_of frame_of record_of tag_of sides_of first_part_of parts_of placed first_partition read widen next ◌>>=◌ number literal signed_literal each walk update_coefficients_of update_rows update_vectors_of header_over header_made segments segment_data filtering filter_deltas quantisers key_refreshing inter_refreshing coefficient_updates vector_updates inter_modes no_inter_modes modes initial_state initial_kept initial_table default_coefficients_of default_rows default_vectors_of inter_y_probabilities_of inter_chroma_probabilities_of key_y_probabilities_of key_chroma_probabilities_of inter_subblock_probabilities_of subblock_probabilities_of split_probabilities_of vector_mode_probabilities_of sub_vector_probabilities_of mb_modes mb_mode intra_mode sub_modes sub_row inter_mode near_of noted put_motion read_vector component long_size bits_at split_vectors sub_vector parts outside segment_entries key_y_entries inter_y_entries chroma_entries subblock_entries vector_mode_entries split_entries sub_vector_entries short_vector_entries token_entries with_segments macroblocks tokens_of macroblock blocks places block coefficients token_size token_row bands_of category_bases_of category_bits_of listed_from built all_built one_built luma_built chroma_built subs_built luma_residues_of chroma_residues_of firsts residue_of residue_after firsts_of inverse_of inverse_y2_of dequantised zigzag_of scaled rounded out_0 out_1 out_2 out_3 sum_0 sum_1 sum_2 sum_3 eighth segment_factors factors_of dc_steps_of ac_steps_of luma_edge_of chroma_edge_of sub_edge_of sub_sample right_rows left_rows down_rows up_rows inter_sample interpolated six_sum six_taps_of rows_put filtered all_filtered mb_filtered edge_filtered place_put place_filtered simple inner outer q0_adjustment p0_adjustment q1_adjustment part level_of limits_of interior_of threshold_of filter_head info_of decoded_of state_after picture_of planes_of rows_cut key_with_segments_bytes key_with_segments_state key_with_segments_planes
 key_with_segments = refl
 
 -- segments as they were; the new picture becomes golden, last stays
@@ -111,7 +111,7 @@ golden_replaced_state = record {
 }
 
 golden_replaced : decode_of key_with_segments_state golden_replaced_bytes ≡ Ok (record { state = golden_replaced_state; picture = record { width = 16; height = 16; y = golden_replaced_planes.y; u = golden_replaced_planes.u; v = golden_replaced_planes.v }; shown = true })
-unfolding decode_of frame_of record_of tag_of sides_of first_part_of parts_of placed first_partition read widen next ◌>>=◌ number literal signed_literal each walk update_coefficients_of update_rows update_vectors_of header_over header_made segments segment_data filtering filter_deltas quantisers key_refreshing inter_refreshing coefficient_updates vector_updates inter_modes no_inter_modes modes initial_state initial_kept initial_table default_coefficients_of default_rows default_vectors_of inter_y_probabilities_of inter_chroma_probabilities_of key_y_probabilities_of key_chroma_probabilities_of inter_subblock_probabilities_of subblock_probabilities_of split_probabilities_of vector_mode_probabilities_of sub_vector_probabilities_of mb_modes mb_mode intra_mode sub_modes sub_row inter_mode near_of noted put_motion read_vector component long_size bits_at split_vectors sub_vector parts outside segment_entries key_y_entries inter_y_entries chroma_entries subblock_entries vector_mode_entries split_entries sub_vector_entries short_vector_entries token_entries with_segments macroblocks tokens_of macroblock blocks places block levels token_size token_row bands_of category_bases_of category_bits_of listed_from built all_built one_built luma_built chroma_built subs_built luma_residues chroma_residues firsts residue_of residue_after firsts_of inverse_of inverse_y2_of dequantised zigzag_of scaled rounded out_0 out_1 out_2 out_3 sum_0 sum_1 sum_2 sum_3 eighth segment_steps steps_of dc_steps_of ac_steps_of luma_edge_of chroma_edge_of sub_edge_of sub_sample right_rows left_rows down_rows up_rows inter_sample interpolated six_sum six_taps_of rows_put filtered all_filtered mb_filtered edge_filtered place_put place_filtered simple inner outer lost gained half_lost part level_of limits_of interior_of threshold_of filter_head info_of decoded_of state_after picture_of planes_of rows_cut key_with_segments_state golden_replaced_bytes golden_replaced_state key_with_segments_planes golden_replaced_planes
+unfolding decode_of frame_of record_of tag_of sides_of first_part_of parts_of placed first_partition read widen next ◌>>=◌ number literal signed_literal each walk update_coefficients_of update_rows update_vectors_of header_over header_made segments segment_data filtering filter_deltas quantisers key_refreshing inter_refreshing coefficient_updates vector_updates inter_modes no_inter_modes modes initial_state initial_kept initial_table default_coefficients_of default_rows default_vectors_of inter_y_probabilities_of inter_chroma_probabilities_of key_y_probabilities_of key_chroma_probabilities_of inter_subblock_probabilities_of subblock_probabilities_of split_probabilities_of vector_mode_probabilities_of sub_vector_probabilities_of mb_modes mb_mode intra_mode sub_modes sub_row inter_mode near_of noted put_motion read_vector component long_size bits_at split_vectors sub_vector parts outside segment_entries key_y_entries inter_y_entries chroma_entries subblock_entries vector_mode_entries split_entries sub_vector_entries short_vector_entries token_entries with_segments macroblocks tokens_of macroblock blocks places block coefficients token_size token_row bands_of category_bases_of category_bits_of listed_from built all_built one_built luma_built chroma_built subs_built luma_residues_of chroma_residues_of firsts residue_of residue_after firsts_of inverse_of inverse_y2_of dequantised zigzag_of scaled rounded out_0 out_1 out_2 out_3 sum_0 sum_1 sum_2 sum_3 eighth segment_factors factors_of dc_steps_of ac_steps_of luma_edge_of chroma_edge_of sub_edge_of sub_sample right_rows left_rows down_rows up_rows inter_sample interpolated six_sum six_taps_of rows_put filtered all_filtered mb_filtered edge_filtered place_put place_filtered simple inner outer q0_adjustment p0_adjustment q1_adjustment part level_of limits_of interior_of threshold_of filter_head info_of decoded_of state_after picture_of planes_of rows_cut key_with_segments_state golden_replaced_bytes golden_replaced_state key_with_segments_planes golden_replaced_planes
 golden_replaced = refl
 
 -- a vector into golden; then golden is the old last, alt the old golden; the probabilities of this frame aren't kept
@@ -148,7 +148,7 @@ from_golden_state = record {
 }
 
 from_golden : decode_of golden_replaced_state from_golden_bytes ≡ Ok (record { state = from_golden_state; picture = record { width = 16; height = 16; y = from_golden_planes.y; u = from_golden_planes.u; v = from_golden_planes.v }; shown = true })
-unfolding decode_of frame_of record_of tag_of sides_of first_part_of parts_of placed first_partition read widen next ◌>>=◌ number literal signed_literal each walk update_coefficients_of update_rows update_vectors_of header_over header_made segments segment_data filtering filter_deltas quantisers key_refreshing inter_refreshing coefficient_updates vector_updates inter_modes no_inter_modes modes initial_state initial_kept initial_table default_coefficients_of default_rows default_vectors_of inter_y_probabilities_of inter_chroma_probabilities_of key_y_probabilities_of key_chroma_probabilities_of inter_subblock_probabilities_of subblock_probabilities_of split_probabilities_of vector_mode_probabilities_of sub_vector_probabilities_of mb_modes mb_mode intra_mode sub_modes sub_row inter_mode near_of noted put_motion read_vector component long_size bits_at split_vectors sub_vector parts outside segment_entries key_y_entries inter_y_entries chroma_entries subblock_entries vector_mode_entries split_entries sub_vector_entries short_vector_entries token_entries with_segments macroblocks tokens_of macroblock blocks places block levels token_size token_row bands_of category_bases_of category_bits_of listed_from built all_built one_built luma_built chroma_built subs_built luma_residues chroma_residues firsts residue_of residue_after firsts_of inverse_of inverse_y2_of dequantised zigzag_of scaled rounded out_0 out_1 out_2 out_3 sum_0 sum_1 sum_2 sum_3 eighth segment_steps steps_of dc_steps_of ac_steps_of luma_edge_of chroma_edge_of sub_edge_of sub_sample right_rows left_rows down_rows up_rows inter_sample interpolated six_sum six_taps_of rows_put filtered all_filtered mb_filtered edge_filtered place_put place_filtered simple inner outer lost gained half_lost part level_of limits_of interior_of threshold_of filter_head info_of decoded_of state_after picture_of planes_of rows_cut golden_replaced_state from_golden_bytes from_golden_state key_with_segments_planes golden_replaced_planes from_golden_planes
+unfolding decode_of frame_of record_of tag_of sides_of first_part_of parts_of placed first_partition read widen next ◌>>=◌ number literal signed_literal each walk update_coefficients_of update_rows update_vectors_of header_over header_made segments segment_data filtering filter_deltas quantisers key_refreshing inter_refreshing coefficient_updates vector_updates inter_modes no_inter_modes modes initial_state initial_kept initial_table default_coefficients_of default_rows default_vectors_of inter_y_probabilities_of inter_chroma_probabilities_of key_y_probabilities_of key_chroma_probabilities_of inter_subblock_probabilities_of subblock_probabilities_of split_probabilities_of vector_mode_probabilities_of sub_vector_probabilities_of mb_modes mb_mode intra_mode sub_modes sub_row inter_mode near_of noted put_motion read_vector component long_size bits_at split_vectors sub_vector parts outside segment_entries key_y_entries inter_y_entries chroma_entries subblock_entries vector_mode_entries split_entries sub_vector_entries short_vector_entries token_entries with_segments macroblocks tokens_of macroblock blocks places block coefficients token_size token_row bands_of category_bases_of category_bits_of listed_from built all_built one_built luma_built chroma_built subs_built luma_residues_of chroma_residues_of firsts residue_of residue_after firsts_of inverse_of inverse_y2_of dequantised zigzag_of scaled rounded out_0 out_1 out_2 out_3 sum_0 sum_1 sum_2 sum_3 eighth segment_factors factors_of dc_steps_of ac_steps_of luma_edge_of chroma_edge_of sub_edge_of sub_sample right_rows left_rows down_rows up_rows inter_sample interpolated six_sum six_taps_of rows_put filtered all_filtered mb_filtered edge_filtered place_put place_filtered simple inner outer q0_adjustment p0_adjustment q1_adjustment part level_of limits_of interior_of threshold_of filter_head info_of decoded_of state_after picture_of planes_of rows_cut golden_replaced_state from_golden_bytes from_golden_state key_with_segments_planes golden_replaced_planes from_golden_planes
 from_golden = refl
 
 -- hidden, without segments, through the simple filter: parts of alt; then golden and alt have changed places
@@ -185,7 +185,7 @@ hidden_in_parts_state = record {
 }
 
 hidden_in_parts : decode_of from_golden_state hidden_in_parts_bytes ≡ Ok (record { state = hidden_in_parts_state; picture = record { width = 16; height = 16; y = hidden_in_parts_planes.y; u = hidden_in_parts_planes.u; v = hidden_in_parts_planes.v }; shown = false })
-unfolding decode_of frame_of record_of tag_of sides_of first_part_of parts_of placed first_partition read widen next ◌>>=◌ number literal signed_literal each walk update_coefficients_of update_rows update_vectors_of header_over header_made segments segment_data filtering filter_deltas quantisers key_refreshing inter_refreshing coefficient_updates vector_updates inter_modes no_inter_modes modes initial_state initial_kept initial_table default_coefficients_of default_rows default_vectors_of inter_y_probabilities_of inter_chroma_probabilities_of key_y_probabilities_of key_chroma_probabilities_of inter_subblock_probabilities_of subblock_probabilities_of split_probabilities_of vector_mode_probabilities_of sub_vector_probabilities_of mb_modes mb_mode intra_mode sub_modes sub_row inter_mode near_of noted put_motion read_vector component long_size bits_at split_vectors sub_vector parts outside segment_entries key_y_entries inter_y_entries chroma_entries subblock_entries vector_mode_entries split_entries sub_vector_entries short_vector_entries token_entries with_segments macroblocks tokens_of macroblock blocks places block levels token_size token_row bands_of category_bases_of category_bits_of listed_from built all_built one_built luma_built chroma_built subs_built luma_residues chroma_residues firsts residue_of residue_after firsts_of inverse_of inverse_y2_of dequantised zigzag_of scaled rounded out_0 out_1 out_2 out_3 sum_0 sum_1 sum_2 sum_3 eighth segment_steps steps_of dc_steps_of ac_steps_of luma_edge_of chroma_edge_of sub_edge_of sub_sample right_rows left_rows down_rows up_rows inter_sample interpolated six_sum six_taps_of rows_put filtered all_filtered mb_filtered edge_filtered place_put place_filtered simple inner outer lost gained half_lost part level_of limits_of interior_of threshold_of filter_head info_of decoded_of state_after picture_of planes_of rows_cut from_golden_state hidden_in_parts_bytes hidden_in_parts_state key_with_segments_planes golden_replaced_planes from_golden_planes hidden_in_parts_planes
+unfolding decode_of frame_of record_of tag_of sides_of first_part_of parts_of placed first_partition read widen next ◌>>=◌ number literal signed_literal each walk update_coefficients_of update_rows update_vectors_of header_over header_made segments segment_data filtering filter_deltas quantisers key_refreshing inter_refreshing coefficient_updates vector_updates inter_modes no_inter_modes modes initial_state initial_kept initial_table default_coefficients_of default_rows default_vectors_of inter_y_probabilities_of inter_chroma_probabilities_of key_y_probabilities_of key_chroma_probabilities_of inter_subblock_probabilities_of subblock_probabilities_of split_probabilities_of vector_mode_probabilities_of sub_vector_probabilities_of mb_modes mb_mode intra_mode sub_modes sub_row inter_mode near_of noted put_motion read_vector component long_size bits_at split_vectors sub_vector parts outside segment_entries key_y_entries inter_y_entries chroma_entries subblock_entries vector_mode_entries split_entries sub_vector_entries short_vector_entries token_entries with_segments macroblocks tokens_of macroblock blocks places block coefficients token_size token_row bands_of category_bases_of category_bits_of listed_from built all_built one_built luma_built chroma_built subs_built luma_residues_of chroma_residues_of firsts residue_of residue_after firsts_of inverse_of inverse_y2_of dequantised zigzag_of scaled rounded out_0 out_1 out_2 out_3 sum_0 sum_1 sum_2 sum_3 eighth segment_factors factors_of dc_steps_of ac_steps_of luma_edge_of chroma_edge_of sub_edge_of sub_sample right_rows left_rows down_rows up_rows inter_sample interpolated six_sum six_taps_of rows_put filtered all_filtered mb_filtered edge_filtered place_put place_filtered simple inner outer q0_adjustment p0_adjustment q1_adjustment part level_of limits_of interior_of threshold_of filter_head info_of decoded_of state_after picture_of planes_of rows_cut from_golden_state hidden_in_parts_bytes hidden_in_parts_state key_with_segments_planes golden_replaced_planes from_golden_planes hidden_in_parts_planes
 hidden_in_parts = refl
 
 -- the segment map is still there; skipped; a copy flag of 3 copies nothing
@@ -222,7 +222,7 @@ segments_again_state = record {
 }
 
 segments_again : decode_of hidden_in_parts_state segments_again_bytes ≡ Ok (record { state = segments_again_state; picture = record { width = 16; height = 16; y = segments_again_planes.y; u = segments_again_planes.u; v = segments_again_planes.v }; shown = true })
-unfolding decode_of frame_of record_of tag_of sides_of first_part_of parts_of placed first_partition read widen next ◌>>=◌ number literal signed_literal each walk update_coefficients_of update_rows update_vectors_of header_over header_made segments segment_data filtering filter_deltas quantisers key_refreshing inter_refreshing coefficient_updates vector_updates inter_modes no_inter_modes modes initial_state initial_kept initial_table default_coefficients_of default_rows default_vectors_of inter_y_probabilities_of inter_chroma_probabilities_of key_y_probabilities_of key_chroma_probabilities_of inter_subblock_probabilities_of subblock_probabilities_of split_probabilities_of vector_mode_probabilities_of sub_vector_probabilities_of mb_modes mb_mode intra_mode sub_modes sub_row inter_mode near_of noted put_motion read_vector component long_size bits_at split_vectors sub_vector parts outside segment_entries key_y_entries inter_y_entries chroma_entries subblock_entries vector_mode_entries split_entries sub_vector_entries short_vector_entries token_entries with_segments macroblocks tokens_of macroblock blocks places block levels token_size token_row bands_of category_bases_of category_bits_of listed_from built all_built one_built luma_built chroma_built subs_built luma_residues chroma_residues firsts residue_of residue_after firsts_of inverse_of inverse_y2_of dequantised zigzag_of scaled rounded out_0 out_1 out_2 out_3 sum_0 sum_1 sum_2 sum_3 eighth segment_steps steps_of dc_steps_of ac_steps_of luma_edge_of chroma_edge_of sub_edge_of sub_sample right_rows left_rows down_rows up_rows inter_sample interpolated six_sum six_taps_of rows_put filtered all_filtered mb_filtered edge_filtered place_put place_filtered simple inner outer lost gained half_lost part level_of limits_of interior_of threshold_of filter_head info_of decoded_of state_after picture_of planes_of rows_cut hidden_in_parts_state segments_again_bytes segments_again_state key_with_segments_planes golden_replaced_planes from_golden_planes hidden_in_parts_planes segments_again_planes
+unfolding decode_of frame_of record_of tag_of sides_of first_part_of parts_of placed first_partition read widen next ◌>>=◌ number literal signed_literal each walk update_coefficients_of update_rows update_vectors_of header_over header_made segments segment_data filtering filter_deltas quantisers key_refreshing inter_refreshing coefficient_updates vector_updates inter_modes no_inter_modes modes initial_state initial_kept initial_table default_coefficients_of default_rows default_vectors_of inter_y_probabilities_of inter_chroma_probabilities_of key_y_probabilities_of key_chroma_probabilities_of inter_subblock_probabilities_of subblock_probabilities_of split_probabilities_of vector_mode_probabilities_of sub_vector_probabilities_of mb_modes mb_mode intra_mode sub_modes sub_row inter_mode near_of noted put_motion read_vector component long_size bits_at split_vectors sub_vector parts outside segment_entries key_y_entries inter_y_entries chroma_entries subblock_entries vector_mode_entries split_entries sub_vector_entries short_vector_entries token_entries with_segments macroblocks tokens_of macroblock blocks places block coefficients token_size token_row bands_of category_bases_of category_bits_of listed_from built all_built one_built luma_built chroma_built subs_built luma_residues_of chroma_residues_of firsts residue_of residue_after firsts_of inverse_of inverse_y2_of dequantised zigzag_of scaled rounded out_0 out_1 out_2 out_3 sum_0 sum_1 sum_2 sum_3 eighth segment_factors factors_of dc_steps_of ac_steps_of luma_edge_of chroma_edge_of sub_edge_of sub_sample right_rows left_rows down_rows up_rows inter_sample interpolated six_sum six_taps_of rows_put filtered all_filtered mb_filtered edge_filtered place_put place_filtered simple inner outer q0_adjustment p0_adjustment q1_adjustment part level_of limits_of interior_of threshold_of filter_head info_of decoded_of state_after picture_of planes_of rows_cut hidden_in_parts_state segments_again_bytes segments_again_state key_with_segments_planes golden_replaced_planes from_golden_planes hidden_in_parts_planes segments_again_planes
 segments_again = refl
 
 -- a key frame of another size: all is as in the beginning, and the map is of zeros
@@ -259,5 +259,5 @@ key_again_state = record {
 }
 
 key_again : decode_of segments_again_state key_again_bytes ≡ Ok (record { state = key_again_state; picture = record { width = 9; height = 5; y = plane 9 5 (be_bytes 45 0x817f7d7c7e7f7f7f7f83817e7e7e7f7f7f7f8584817f7f8181818085858681828282828182868b908985858383); u = plane 5 3 (be_bytes 15 0x808080808080808080808080808080); v = plane 5 3 (be_bytes 15 0x808080808080808080808080808080) }; shown = true })
-unfolding decode_of frame_of record_of tag_of sides_of first_part_of parts_of placed first_partition read widen next ◌>>=◌ number literal signed_literal each walk update_coefficients_of update_rows update_vectors_of header_over header_made segments segment_data filtering filter_deltas quantisers key_refreshing inter_refreshing coefficient_updates vector_updates inter_modes no_inter_modes modes initial_state initial_kept initial_table default_coefficients_of default_rows default_vectors_of inter_y_probabilities_of inter_chroma_probabilities_of key_y_probabilities_of key_chroma_probabilities_of inter_subblock_probabilities_of subblock_probabilities_of split_probabilities_of vector_mode_probabilities_of sub_vector_probabilities_of mb_modes mb_mode intra_mode sub_modes sub_row inter_mode near_of noted put_motion read_vector component long_size bits_at split_vectors sub_vector parts outside segment_entries key_y_entries inter_y_entries chroma_entries subblock_entries vector_mode_entries split_entries sub_vector_entries short_vector_entries token_entries with_segments macroblocks tokens_of macroblock blocks places block levels token_size token_row bands_of category_bases_of category_bits_of listed_from built all_built one_built luma_built chroma_built subs_built luma_residues chroma_residues firsts residue_of residue_after firsts_of inverse_of inverse_y2_of dequantised zigzag_of scaled rounded out_0 out_1 out_2 out_3 sum_0 sum_1 sum_2 sum_3 eighth segment_steps steps_of dc_steps_of ac_steps_of luma_edge_of chroma_edge_of sub_edge_of sub_sample right_rows left_rows down_rows up_rows inter_sample interpolated six_sum six_taps_of rows_put filtered all_filtered mb_filtered edge_filtered place_put place_filtered simple inner outer lost gained half_lost part level_of limits_of interior_of threshold_of filter_head info_of decoded_of state_after picture_of planes_of rows_cut segments_again_state key_again_bytes key_again_state key_with_segments_planes golden_replaced_planes from_golden_planes hidden_in_parts_planes segments_again_planes key_again_planes
+unfolding decode_of frame_of record_of tag_of sides_of first_part_of parts_of placed first_partition read widen next ◌>>=◌ number literal signed_literal each walk update_coefficients_of update_rows update_vectors_of header_over header_made segments segment_data filtering filter_deltas quantisers key_refreshing inter_refreshing coefficient_updates vector_updates inter_modes no_inter_modes modes initial_state initial_kept initial_table default_coefficients_of default_rows default_vectors_of inter_y_probabilities_of inter_chroma_probabilities_of key_y_probabilities_of key_chroma_probabilities_of inter_subblock_probabilities_of subblock_probabilities_of split_probabilities_of vector_mode_probabilities_of sub_vector_probabilities_of mb_modes mb_mode intra_mode sub_modes sub_row inter_mode near_of noted put_motion read_vector component long_size bits_at split_vectors sub_vector parts outside segment_entries key_y_entries inter_y_entries chroma_entries subblock_entries vector_mode_entries split_entries sub_vector_entries short_vector_entries token_entries with_segments macroblocks tokens_of macroblock blocks places block coefficients token_size token_row bands_of category_bases_of category_bits_of listed_from built all_built one_built luma_built chroma_built subs_built luma_residues_of chroma_residues_of firsts residue_of residue_after firsts_of inverse_of inverse_y2_of dequantised zigzag_of scaled rounded out_0 out_1 out_2 out_3 sum_0 sum_1 sum_2 sum_3 eighth segment_factors factors_of dc_steps_of ac_steps_of luma_edge_of chroma_edge_of sub_edge_of sub_sample right_rows left_rows down_rows up_rows inter_sample interpolated six_sum six_taps_of rows_put filtered all_filtered mb_filtered edge_filtered place_put place_filtered simple inner outer q0_adjustment p0_adjustment q1_adjustment part level_of limits_of interior_of threshold_of filter_head info_of decoded_of state_after picture_of planes_of rows_cut segments_again_state key_again_bytes key_again_state key_with_segments_planes golden_replaced_planes from_golden_planes hidden_in_parts_planes segments_again_planes key_again_planes
 key_again = refl

@@ -84,21 +84,21 @@ stands_set bytes parts read_to ds q i d many places less all new p lt = by_test 
         subst (λ x. StandsFor (part_bytes bytes parts p) x (slice_index_or (slice_set ds q d) p (opened []))) (sym a) (subst (λ x. StandsFor (part_bytes bytes parts p) (slice_index_or read_to p start) x) (sym b) (all p lt))
 
 -- a macroblock read out of its partition
-module _ (bytes : List ℕ) (parts : List (ℕ × ℕ)) (coefficients : List ℕ) (columns k column row : ℕ) (m : MbMode) (r : Progress)
-    (ds : List Reading) (above : List Contexts) (left over beside after_above after_left : Contexts) (n : ℕ) (from d : Reading) (levels : List (List ℤ)) (some : Bool)
+module _ (bytes : List ℕ) (parts : List (ℕ × ℕ)) (probabilities : List ℕ) (columns k column row : ℕ) (m : MbMode) (r : Progress)
+    (ds : List Reading) (above : List Contexts) (left over beside after_above after_left : Contexts) (n : ℕ) (from d : Reading) (coefficients : List (List ℤ)) (has_coefficients : Bool)
     (column_is : k % columns ≡ column) (row_is : k / columns ≡ row) (in_columns : column < length above) (in_parts : 1 ≤ length ds) (n_is : n ≡ length ds)
     (h : Holds bytes parts columns r ds above left) (from_is : from ≡ slice_index_or ds (row % n) from) (over_is : over ≡ slice_index_or above column over) (beside_is : beside.0 ≡ (if column == 0 then no_contexts else left.0)) where
   abbrev part : ℕ
   part = row % n
 
   abbrev here : Tokens × Interval
-  here = tokens_in (part_bytes bytes parts part) (slice_index_or r.read_to part start) coefficients m over.0 beside.0
+  here = tokens_in (part_bytes bytes parts part) (slice_index_or r.read_to part start) probabilities m over.0 beside.0
 
   part_is : part_of (length parts) columns k ≡ part
   part_is = ap (λ x. x % length parts) row_is ∙ ap (λ x. row % x) (sym (n_is ∙ h.count))
 
   -- what the code reads is what the definition says
-  same : tokens_of bytes parts coefficients columns k m r ≡ here
+  same : tokens_of bytes parts probabilities columns k m r ≡ here
   unfolding tokens_of
   same =
       let a : slice_index_or r.above (k % columns) no_contexts ≡ over.0 =
@@ -108,12 +108,12 @@ module _ (bytes : List ℕ) (parts : List (ℕ × ℕ)) (coefficients : List ℕ
       ∙ ap (λ (c : Contexts). c.0) (sym over_is))) in
       let l : (if k % columns == 0 then no_contexts else r.left) ≡ beside.0 =
       ap (λ x. if x == 0 then no_contexts else r.left) column_is ∙ (ap (λ xs. if column == 0 then no_contexts else xs) h.left_is ∙ sym beside_is) in
-      ap (λ p. tokens_in (part_bytes bytes parts p) (slice_index_or r.read_to p start) coefficients m (slice_index_or r.above (k % columns) no_contexts) (if k % columns == 0 then no_contexts else r.left)) part_is
-      ∙ (ap (λ x. tokens_in (part_bytes bytes parts part) (slice_index_or r.read_to part start) coefficients m x (if k % columns == 0 then no_contexts else r.left)) a
-      ∙ ap (λ x. tokens_in (part_bytes bytes parts part) (slice_index_or r.read_to part start) coefficients m over.0 x) l)
+      ap (λ p. tokens_in (part_bytes bytes parts p) (slice_index_or r.read_to p start) probabilities m (slice_index_or r.above (k % columns) no_contexts) (if k % columns == 0 then no_contexts else r.left)) part_is
+      ∙ (ap (λ x. tokens_in (part_bytes bytes parts part) (slice_index_or r.read_to part start) probabilities m x (if k % columns == 0 then no_contexts else r.left)) a
+      ∙ ap (λ x. tokens_in (part_bytes bytes parts part) (slice_index_or r.read_to part start) probabilities m over.0 x) l)
 
-  pub read_next : ((b : List ℕ) (i : Interval) → StandsFor b i from → (tokens levels some after_above.0 after_left.0 ≡ (tokens_in b i coefficients m over.0 beside.0).0) × StandsFor b (tokens_in b i coefficients m over.0 beside.0).1 d)
-      → HasRead bytes parts columns k r (tokens_of bytes parts coefficients columns k m r) levels some (slice_set ds part d) (slice_set above column after_above) after_left
+  pub read_next : ((b : List ℕ) (i : Interval) → StandsFor b i from → (tokens coefficients has_coefficients after_above.0 after_left.0 ≡ (tokens_in b i probabilities m over.0 beside.0).0) × StandsFor b (tokens_in b i probabilities m over.0 beside.0).1 d)
+      → HasRead bytes parts columns k r (tokens_of bytes parts probabilities columns k m r) coefficients has_coefficients (slice_set ds part d) (slice_set above column after_above) after_left
   read_next reads =
       let lt : part < length parts = subst (λ x. part < x) (n_is ∙ h.count) (mod-lt row {m = n} (omega (arith, n_is, in_parts))) in
       let stood : StandsFor (part_bytes bytes parts part) (slice_index_or r.read_to part start) from =
@@ -135,5 +135,5 @@ module _ (bytes : List ℕ) (parts : List (ℕ × ℕ)) (coefficients : List ℕ
         above_is = all_above;
         left_is = sym (ap (λ (t : Tokens). t.left) x.0);
       } in
-      subst (λ t. HasRead bytes parts columns k r t levels some (slice_set ds part d) (slice_set above column after_above) after_left) (sym same)
-      (record { levels_are = ap (λ (t : Tokens). t.levels) x.0; some_is = ap (λ (t : Tokens). t.some) x.0; holds = holds })
+      subst (λ t. HasRead bytes parts columns k r t coefficients has_coefficients (slice_set ds part d) (slice_set above column after_above) after_left) (sym same)
+      (record { coefficients_are = ap (λ (t : Tokens). t.coefficients) x.0; has_coefficients_are = ap (λ (t : Tokens). t.has_coefficients) x.0; holds = holds })

@@ -20,12 +20,12 @@ use Rattle.sal_header.specs.Headers.{header_over, header_made, segments, segment
 use Rattle.sal_macroblock.specs.Macroblocks.{outside}
 use Rattle.sal_transform.specs.Hadamard.{inverse_y2_of, sum_0, sum_1, sum_2, sum_3, eighth}
 use Rattle.sal_transform.specs.Residue.{residue_of, residue_after, firsts_of}
-use Rattle.sal_transform.specs.Steps.{dequantised, steps_of}
+use Rattle.sal_transform.specs.Factors.{dequantised, factors_of}
 use Rattle.sal_transform.specs.Inverse.{inverse_of, scaled, rounded, out_0, out_1, out_2, out_3}
 use Rattle.sal_intra.specs.Edges.{luma_edge_of, chroma_edge_of, sub_edge_of}
 use Rattle.sal_intra.specs.Sub.{sub_sample, right_rows, left_rows, down_rows, up_rows}
 use Rattle.sal_inter.specs.Inter.{inter_sample, interpolated, six_sum}
-use Rattle.sal_filter.specs.Edges.{place_filtered, simple, inner, outer, lost, gained, half_lost, part}
+use Rattle.sal_filter.specs.Edges.{place_filtered, simple, inner, outer, q0_adjustment, p0_adjustment, q1_adjustment, part}
 use Rattle.sal_filter.specs.Limits.{level_of, limits_of, interior_of, threshold_of}
 use Rattle.sal_filter.specs.Filtered.{filtered, all_filtered, mb_filtered, edge_filtered, place_put}
 use Rattle.sal_modes.specs.IntraModes.{intra_mode, sub_modes, sub_row}
@@ -34,17 +34,17 @@ use Rattle.sal_modes.specs.ReadVectors.{read_vector, component, long_size, bits_
 use Rattle.sal_modes.specs.Near.{near_of, noted, put_motion}
 use Rattle.sal_modes.specs.Modes.{mb_mode, inter_mode}
 use Rattle.sal_tokens.specs.Blocks.{macroblock, blocks, places}
-use Rattle.sal_tokens.specs.Levels.{block, levels, token_size, token_row}
+use Rattle.sal_tokens.specs.Coefficients.{block, coefficients, token_size, token_row}
 use Rattle.sal_state.specs.States.{initial_state, initial_kept}
 use Rattle.sal_frame.specs.Built.{built, all_built, one_built, luma_built, chroma_built, subs_built}
-use Rattle.sal_frame.specs.Records.{segment_steps, filter_head, info_of}
-use Rattle.sal_frame.specs.Residues.{luma_residues, chroma_residues, firsts}
+use Rattle.sal_frame.specs.Records.{segment_factors, filter_head, info_of}
+use Rattle.sal_transform.specs.Residues.{chroma_residues_of, firsts, luma_residues_of}
 use Rattle.sal_decode.specs.Decode.{decode_of}
 use Rattle.sal_decode.specs.Syntax.{frame_of, record_of}
 use Rattle.sal_decode.specs.FirstPartition.{first_partition, mb_modes, with_segments}
 use Rattle.sal_decode.specs.TokenPartitions.{macroblocks, tokens_of}
 
--- sixteen levels of which the last are 0
+-- sixteen coefficients of which the last are 0
 abbrev padded : List ℤ → List ℤ
 padded zs = zs ++ replicate (16 - length zs) (pos 0)
 
@@ -101,28 +101,28 @@ key_record = record {
   height = 18;
   blocks = record {
     mode = record { segment = 0; skip = false; reference = Intra; y = B; sub = replicate 16 BDC; chroma = H; vectors = replicate 16 (vector (pos 0) (pos 0)) };
-    levels = padded (pos 1 ∷ []) ∷ padded (negsuc 0 ∷ negsuc 0 ∷ pos 1 ∷ []) ∷ none ∷ none ∷ padded (negsuc 0 ∷ pos 1 ∷ pos 1 ∷ []) ∷ none ∷ none ∷ none ∷ padded (pos 1 ∷ pos 0 ∷ pos 1 ∷ []) ∷ none ∷ none ∷ none ∷ none ∷ none ∷ padded (negsuc 0 ∷ pos 0 ∷ negsuc 0 ∷ pos 0 ∷ pos 1 ∷ pos 0 ∷ pos 0 ∷ negsuc 0 ∷ negsuc 1 ∷ pos 1 ∷ []) ∷ none ∷ none ∷ none ∷ none ∷ none ∷ none ∷ none ∷ none ∷ none ∷ none ∷ [];
-    some = true;
+    coefficients = padded (pos 1 ∷ []) ∷ padded (negsuc 0 ∷ negsuc 0 ∷ pos 1 ∷ []) ∷ none ∷ none ∷ padded (negsuc 0 ∷ pos 1 ∷ pos 1 ∷ []) ∷ none ∷ none ∷ none ∷ padded (pos 1 ∷ pos 0 ∷ pos 1 ∷ []) ∷ none ∷ none ∷ none ∷ none ∷ none ∷ padded (negsuc 0 ∷ pos 0 ∷ negsuc 0 ∷ pos 0 ∷ pos 1 ∷ pos 0 ∷ pos 0 ∷ negsuc 0 ∷ negsuc 1 ∷ pos 1 ∷ []) ∷ none ∷ none ∷ none ∷ none ∷ none ∷ none ∷ none ∷ none ∷ none ∷ none ∷ [];
+    has_coefficients = true;
   }
       ∷ record {
         mode = record { segment = 0; skip = true; reference = Intra; y = V; sub = replicate 16 BVE; chroma = V; vectors = replicate 16 (vector (pos 0) (pos 0)) };
-        levels = none ∷ none ∷ none ∷ none ∷ none ∷ none ∷ none ∷ none ∷ none ∷ none ∷ none ∷ none ∷ none ∷ none ∷ none ∷ none ∷ none ∷ none ∷ none ∷ none ∷ none ∷ none ∷ none ∷ none ∷ none ∷ [];
-        some = false;
+        coefficients = none ∷ none ∷ none ∷ none ∷ none ∷ none ∷ none ∷ none ∷ none ∷ none ∷ none ∷ none ∷ none ∷ none ∷ none ∷ none ∷ none ∷ none ∷ none ∷ none ∷ none ∷ none ∷ none ∷ none ∷ none ∷ [];
+        has_coefficients = false;
       }
       ∷ record {
         mode = record { segment = 0; skip = false; reference = Intra; y = TM; sub = replicate 16 BTM; chroma = DC; vectors = replicate 16 (vector (pos 0) (pos 0)) };
-        levels = none ∷ none ∷ none ∷ none ∷ none ∷ none ∷ none ∷ none ∷ none ∷ padded (pos 0 ∷ negsuc 0 ∷ []) ∷ padded (pos 0 ∷ pos 0 ∷ pos 0 ∷ pos 0 ∷ negsuc 0 ∷ pos 0 ∷ pos 0 ∷ negsuc 0 ∷ pos 0 ∷ pos 0 ∷ pos 0 ∷ pos 0 ∷ pos 0 ∷ pos 0 ∷ pos 1 ∷ []) ∷ padded (pos 0 ∷ negsuc 1 ∷ []) ∷ none ∷ none ∷ none ∷ none ∷ none ∷ none ∷ none ∷ none ∷ none ∷ none ∷ none ∷ none ∷ none ∷ [];
-        some = true;
+        coefficients = none ∷ none ∷ none ∷ none ∷ none ∷ none ∷ none ∷ none ∷ none ∷ padded (pos 0 ∷ negsuc 0 ∷ []) ∷ padded (pos 0 ∷ pos 0 ∷ pos 0 ∷ pos 0 ∷ negsuc 0 ∷ pos 0 ∷ pos 0 ∷ negsuc 0 ∷ pos 0 ∷ pos 0 ∷ pos 0 ∷ pos 0 ∷ pos 0 ∷ pos 0 ∷ pos 1 ∷ []) ∷ padded (pos 0 ∷ negsuc 1 ∷ []) ∷ none ∷ none ∷ none ∷ none ∷ none ∷ none ∷ none ∷ none ∷ none ∷ none ∷ none ∷ none ∷ none ∷ [];
+        has_coefficients = true;
       }
       ∷ record {
         mode = record { segment = 0; skip = false; reference = Intra; y = B; sub = BVE ∷ BVE ∷ BDC ∷ BTM ∷ BVL ∷ BTM ∷ BTM ∷ BTM ∷ BRD ∷ BDC ∷ BTM ∷ BVE ∷ BTM ∷ BTM ∷ BVE ∷ BVE ∷ []; chroma = V; vectors = replicate 16 (vector (pos 0) (pos 0)) };
-        levels = none ∷ none ∷ none ∷ none ∷ none ∷ none ∷ padded (negsuc 0 ∷ []) ∷ padded (pos 1 ∷ []) ∷ padded (negsuc 0 ∷ []) ∷ none ∷ padded (pos 2 ∷ []) ∷ padded (pos 2 ∷ pos 0 ∷ negsuc 0 ∷ pos 1 ∷ []) ∷ padded (pos 1 ∷ []) ∷ padded (negsuc 0 ∷ pos 0 ∷ negsuc 0 ∷ negsuc 0 ∷ []) ∷ padded (pos 1 ∷ negsuc 0 ∷ []) ∷ padded (pos 0 ∷ pos 0 ∷ pos 1 ∷ []) ∷ none ∷ none ∷ none ∷ none ∷ none ∷ none ∷ none ∷ none ∷ none ∷ [];
-        some = true;
+        coefficients = none ∷ none ∷ none ∷ none ∷ none ∷ none ∷ padded (negsuc 0 ∷ []) ∷ padded (pos 1 ∷ []) ∷ padded (negsuc 0 ∷ []) ∷ none ∷ padded (pos 2 ∷ []) ∷ padded (pos 2 ∷ pos 0 ∷ negsuc 0 ∷ pos 1 ∷ []) ∷ padded (pos 1 ∷ []) ∷ padded (negsuc 0 ∷ pos 0 ∷ negsuc 0 ∷ negsuc 0 ∷ []) ∷ padded (pos 1 ∷ negsuc 0 ∷ []) ∷ padded (pos 0 ∷ pos 0 ∷ pos 1 ∷ []) ∷ none ∷ none ∷ none ∷ none ∷ none ∷ none ∷ none ∷ none ∷ none ∷ [];
+        has_coefficients = true;
       } ∷ [];
 }
 
 key_read : frame_of initial_state key_bytes ≡ Ok key_record
-unfolding decode_of frame_of record_of tag_of sides_of first_part_of parts_of placed first_partition read widen next ◌>>=◌ number literal signed_literal each walk update_coefficients_of update_rows update_vectors_of header_over header_made segments segment_data filtering filter_deltas quantisers key_refreshing inter_refreshing coefficient_updates vector_updates inter_modes no_inter_modes modes initial_state initial_kept initial_table default_coefficients_of default_rows default_vectors_of inter_y_probabilities_of inter_chroma_probabilities_of key_y_probabilities_of key_chroma_probabilities_of inter_subblock_probabilities_of subblock_probabilities_of split_probabilities_of vector_mode_probabilities_of sub_vector_probabilities_of mb_modes mb_mode intra_mode sub_modes sub_row inter_mode near_of noted put_motion read_vector component long_size bits_at split_vectors sub_vector parts outside segment_entries key_y_entries inter_y_entries chroma_entries subblock_entries vector_mode_entries split_entries sub_vector_entries short_vector_entries token_entries with_segments macroblocks tokens_of macroblock blocks places block levels token_size token_row bands_of category_bases_of category_bits_of listed_from key_bytes key_record
+unfolding decode_of frame_of record_of tag_of sides_of first_part_of parts_of placed first_partition read widen next ◌>>=◌ number literal signed_literal each walk update_coefficients_of update_rows update_vectors_of header_over header_made segments segment_data filtering filter_deltas quantisers key_refreshing inter_refreshing coefficient_updates vector_updates inter_modes no_inter_modes modes initial_state initial_kept initial_table default_coefficients_of default_rows default_vectors_of inter_y_probabilities_of inter_chroma_probabilities_of key_y_probabilities_of key_chroma_probabilities_of inter_subblock_probabilities_of subblock_probabilities_of split_probabilities_of vector_mode_probabilities_of sub_vector_probabilities_of mb_modes mb_mode intra_mode sub_modes sub_row inter_mode near_of noted put_motion read_vector component long_size bits_at split_vectors sub_vector parts outside segment_entries key_y_entries inter_y_entries chroma_entries subblock_entries vector_mode_entries split_entries sub_vector_entries short_vector_entries token_entries with_segments macroblocks tokens_of macroblock blocks places block coefficients token_size token_row bands_of category_bases_of category_bits_of listed_from key_bytes key_record
 key_read = refl
 
 key_unfiltered : Planes
@@ -165,7 +165,7 @@ key_unfiltered = record {
 }
 
 key_built : built None key_record ≡ key_unfiltered
-unfolding built all_built one_built luma_built chroma_built subs_built luma_residues chroma_residues firsts residue_of residue_after firsts_of inverse_of inverse_y2_of dequantised zigzag_of scaled rounded out_0 out_1 out_2 out_3 sum_0 sum_1 sum_2 sum_3 eighth segment_steps steps_of dc_steps_of ac_steps_of luma_edge_of chroma_edge_of sub_edge_of sub_sample right_rows left_rows down_rows up_rows inter_sample interpolated six_sum six_taps_of rows_put listed_from initial_state key_record key_unfiltered
+unfolding built all_built one_built luma_built chroma_built subs_built luma_residues_of chroma_residues_of firsts residue_of residue_after firsts_of inverse_of inverse_y2_of dequantised zigzag_of scaled rounded out_0 out_1 out_2 out_3 sum_0 sum_1 sum_2 sum_3 eighth segment_factors factors_of dc_steps_of ac_steps_of luma_edge_of chroma_edge_of sub_edge_of sub_sample right_rows left_rows down_rows up_rows inter_sample interpolated six_sum six_taps_of rows_put listed_from initial_state key_record key_unfiltered
 key_built = refl
 
 key_planes : Planes
@@ -208,7 +208,7 @@ key_planes = record {
 }
 
 key_filtered : filtered (filter_head key_record.header) (map info_of key_record.blocks) key_unfiltered ≡ key_planes
-unfolding filtered all_filtered mb_filtered edge_filtered place_put place_filtered simple inner outer lost gained half_lost part level_of limits_of interior_of threshold_of filter_head info_of key_record key_unfiltered key_planes
+unfolding filtered all_filtered mb_filtered edge_filtered place_put place_filtered simple inner outer q0_adjustment p0_adjustment q1_adjustment part level_of limits_of interior_of threshold_of filter_head info_of key_record key_unfiltered key_planes
 key_filtered = refl
 
 key_picture : cropped 26 18 key_planes ≡ record {
@@ -295,28 +295,28 @@ inter_record = record {
   height = 18;
   blocks = record {
     mode = record { segment = 0; skip = true; reference = Intra; y = V; sub = replicate 16 BVE; chroma = DC; vectors = replicate 16 (vector (pos 0) (pos 0)) };
-    levels = none ∷ none ∷ none ∷ none ∷ none ∷ none ∷ none ∷ none ∷ none ∷ none ∷ none ∷ none ∷ none ∷ none ∷ none ∷ none ∷ none ∷ none ∷ none ∷ none ∷ none ∷ none ∷ none ∷ none ∷ none ∷ [];
-    some = false;
+    coefficients = none ∷ none ∷ none ∷ none ∷ none ∷ none ∷ none ∷ none ∷ none ∷ none ∷ none ∷ none ∷ none ∷ none ∷ none ∷ none ∷ none ∷ none ∷ none ∷ none ∷ none ∷ none ∷ none ∷ none ∷ none ∷ [];
+    has_coefficients = false;
   }
       ∷ record {
         mode = record { segment = 0; skip = false; reference = Last; y = SPLIT; sub = replicate 16 BDC; chroma = DC; vectors = replicate 16 (vector (pos 25) (pos 0)) };
-        levels = padded (pos 0 ∷ pos 0 ∷ pos 0 ∷ pos 0 ∷ negsuc 0 ∷ []) ∷ none ∷ none ∷ none ∷ none ∷ padded (pos 2 ∷ pos 1 ∷ []) ∷ none ∷ none ∷ padded (negsuc 0 ∷ []) ∷ padded (negsuc 1 ∷ pos 1 ∷ pos 2 ∷ []) ∷ none ∷ none ∷ none ∷ padded (negsuc 0 ∷ []) ∷ padded (pos 4 ∷ pos 1 ∷ []) ∷ none ∷ none ∷ none ∷ none ∷ none ∷ none ∷ none ∷ none ∷ none ∷ none ∷ [];
-        some = true;
+        coefficients = padded (pos 0 ∷ pos 0 ∷ pos 0 ∷ pos 0 ∷ negsuc 0 ∷ []) ∷ none ∷ none ∷ none ∷ none ∷ padded (pos 2 ∷ pos 1 ∷ []) ∷ none ∷ none ∷ padded (negsuc 0 ∷ []) ∷ padded (negsuc 1 ∷ pos 1 ∷ pos 2 ∷ []) ∷ none ∷ none ∷ none ∷ padded (negsuc 0 ∷ []) ∷ padded (pos 4 ∷ pos 1 ∷ []) ∷ none ∷ none ∷ none ∷ none ∷ none ∷ none ∷ none ∷ none ∷ none ∷ none ∷ [];
+        has_coefficients = true;
       }
       ∷ record {
         mode = record { segment = 0; skip = false; reference = Last; y = NEW; sub = replicate 16 BDC; chroma = DC; vectors = replicate 16 (vector (pos 99) (negsuc 42)) };
-        levels = none ∷ none ∷ none ∷ none ∷ none ∷ none ∷ none ∷ none ∷ none ∷ none ∷ none ∷ none ∷ none ∷ none ∷ none ∷ none ∷ none ∷ none ∷ none ∷ none ∷ none ∷ none ∷ none ∷ none ∷ none ∷ [];
-        some = false;
+        coefficients = none ∷ none ∷ none ∷ none ∷ none ∷ none ∷ none ∷ none ∷ none ∷ none ∷ none ∷ none ∷ none ∷ none ∷ none ∷ none ∷ none ∷ none ∷ none ∷ none ∷ none ∷ none ∷ none ∷ none ∷ none ∷ [];
+        has_coefficients = false;
       }
       ∷ record {
         mode = record { segment = 0; skip = false; reference = Golden; y = SPLIT; sub = replicate 16 BDC; chroma = DC; vectors = vector (pos 99) (negsuc 42) ∷ vector (pos 99) (negsuc 42) ∷ vector (pos 25) (pos 0) ∷ vector (pos 25) (pos 0) ∷ vector (negsuc 24) (pos 6) ∷ vector (negsuc 33) (negsuc 7) ∷ vector (pos 114) (negsuc 0) ∷ vector (pos 114) (negsuc 0) ∷ vector (pos 99) (negsuc 42) ∷ vector (negsuc 33) (negsuc 7) ∷ vector (negsuc 33) (negsuc 7) ∷ vector (negsuc 33) (negsuc 7) ∷ vector (negsuc 19) (pos 2) ∷ vector (negsuc 27) (pos 0) ∷ vector (negsuc 27) (pos 0) ∷ vector (negsuc 27) (pos 0) ∷ [] };
-        levels = none ∷ padded (pos 0 ∷ negsuc 0 ∷ []) ∷ padded (negsuc 0 ∷ pos 1 ∷ pos 0 ∷ pos 0 ∷ pos 0 ∷ pos 1 ∷ pos 0 ∷ pos 0 ∷ negsuc 1 ∷ pos 1 ∷ []) ∷ padded (pos 0 ∷ pos 0 ∷ negsuc 0 ∷ pos 0 ∷ negsuc 0 ∷ []) ∷ none ∷ none ∷ none ∷ padded (pos 5 ∷ pos 0 ∷ negsuc 0 ∷ []) ∷ none ∷ none ∷ none ∷ none ∷ none ∷ none ∷ none ∷ none ∷ none ∷ none ∷ none ∷ none ∷ none ∷ none ∷ none ∷ none ∷ none ∷ [];
-        some = true;
+        coefficients = none ∷ padded (pos 0 ∷ negsuc 0 ∷ []) ∷ padded (negsuc 0 ∷ pos 1 ∷ pos 0 ∷ pos 0 ∷ pos 0 ∷ pos 1 ∷ pos 0 ∷ pos 0 ∷ negsuc 1 ∷ pos 1 ∷ []) ∷ padded (pos 0 ∷ pos 0 ∷ negsuc 0 ∷ pos 0 ∷ negsuc 0 ∷ []) ∷ none ∷ none ∷ none ∷ padded (pos 5 ∷ pos 0 ∷ negsuc 0 ∷ []) ∷ none ∷ none ∷ none ∷ none ∷ none ∷ none ∷ none ∷ none ∷ none ∷ none ∷ none ∷ none ∷ none ∷ none ∷ none ∷ none ∷ none ∷ [];
+        has_coefficients = true;
       } ∷ [];
 }
 
 inter_read : frame_of key_state inter_bytes ≡ Ok inter_record
-unfolding decode_of frame_of record_of tag_of sides_of first_part_of parts_of placed first_partition read widen next ◌>>=◌ number literal signed_literal each walk update_coefficients_of update_rows update_vectors_of header_over header_made segments segment_data filtering filter_deltas quantisers key_refreshing inter_refreshing coefficient_updates vector_updates inter_modes no_inter_modes modes initial_state initial_kept initial_table default_coefficients_of default_rows default_vectors_of inter_y_probabilities_of inter_chroma_probabilities_of key_y_probabilities_of key_chroma_probabilities_of inter_subblock_probabilities_of subblock_probabilities_of split_probabilities_of vector_mode_probabilities_of sub_vector_probabilities_of mb_modes mb_mode intra_mode sub_modes sub_row inter_mode near_of noted put_motion read_vector component long_size bits_at split_vectors sub_vector parts outside segment_entries key_y_entries inter_y_entries chroma_entries subblock_entries vector_mode_entries split_entries sub_vector_entries short_vector_entries token_entries with_segments macroblocks tokens_of macroblock blocks places block levels token_size token_row bands_of category_bases_of category_bits_of listed_from inter_bytes inter_record key_state key_planes
+unfolding decode_of frame_of record_of tag_of sides_of first_part_of parts_of placed first_partition read widen next ◌>>=◌ number literal signed_literal each walk update_coefficients_of update_rows update_vectors_of header_over header_made segments segment_data filtering filter_deltas quantisers key_refreshing inter_refreshing coefficient_updates vector_updates inter_modes no_inter_modes modes initial_state initial_kept initial_table default_coefficients_of default_rows default_vectors_of inter_y_probabilities_of inter_chroma_probabilities_of key_y_probabilities_of key_chroma_probabilities_of inter_subblock_probabilities_of subblock_probabilities_of split_probabilities_of vector_mode_probabilities_of sub_vector_probabilities_of mb_modes mb_mode intra_mode sub_modes sub_row inter_mode near_of noted put_motion read_vector component long_size bits_at split_vectors sub_vector parts outside segment_entries key_y_entries inter_y_entries chroma_entries subblock_entries vector_mode_entries split_entries sub_vector_entries short_vector_entries token_entries with_segments macroblocks tokens_of macroblock blocks places block coefficients token_size token_row bands_of category_bases_of category_bits_of listed_from inter_bytes inter_record key_state key_planes
 inter_read = refl
 
 inter_unfiltered : Planes
@@ -359,7 +359,7 @@ inter_unfiltered = record {
 }
 
 inter_built : built key_state.references inter_record ≡ inter_unfiltered
-unfolding built all_built one_built luma_built chroma_built subs_built luma_residues chroma_residues firsts residue_of residue_after firsts_of inverse_of inverse_y2_of dequantised zigzag_of scaled rounded out_0 out_1 out_2 out_3 sum_0 sum_1 sum_2 sum_3 eighth segment_steps steps_of dc_steps_of ac_steps_of luma_edge_of chroma_edge_of sub_edge_of sub_sample right_rows left_rows down_rows up_rows inter_sample interpolated six_sum six_taps_of rows_put listed_from initial_state inter_record key_state inter_unfiltered key_planes
+unfolding built all_built one_built luma_built chroma_built subs_built luma_residues_of chroma_residues_of firsts residue_of residue_after firsts_of inverse_of inverse_y2_of dequantised zigzag_of scaled rounded out_0 out_1 out_2 out_3 sum_0 sum_1 sum_2 sum_3 eighth segment_factors factors_of dc_steps_of ac_steps_of luma_edge_of chroma_edge_of sub_edge_of sub_sample right_rows left_rows down_rows up_rows inter_sample interpolated six_sum six_taps_of rows_put listed_from initial_state inter_record key_state inter_unfiltered key_planes
 inter_built = refl
 
 inter_planes : Planes
@@ -402,7 +402,7 @@ inter_planes = record {
 }
 
 inter_filtered : filtered (filter_head inter_record.header) (map info_of inter_record.blocks) inter_unfiltered ≡ inter_planes
-unfolding filtered all_filtered mb_filtered edge_filtered place_put place_filtered simple inner outer lost gained half_lost part level_of limits_of interior_of threshold_of filter_head info_of inter_record inter_unfiltered inter_planes key_planes
+unfolding filtered all_filtered mb_filtered edge_filtered place_put place_filtered simple inner outer q0_adjustment p0_adjustment q1_adjustment part level_of limits_of interior_of threshold_of filter_head info_of inter_record inter_unfiltered inter_planes key_planes
 inter_filtered = refl
 
 inter_picture : cropped 26 18 inter_planes ≡ record {

@@ -22,10 +22,10 @@ pub record Holds (bytes : List ℕ) (parts : List (ℕ × ℕ)) (columns : ℕ) 
   pub above_is : r.above ≡ map (λ (c : Contexts). c.0) above
   pub left_is : r.left ≡ left.0
 
--- these levels and this are the tokens of macroblock k, and the rest stands after them
-pub record HasRead (bytes : List ℕ) (parts : List (ℕ × ℕ)) (columns k : ℕ) (r : Progress) (t : Tokens × Interval) (levels : List (List ℤ)) (some : Bool) (decoders : List Reading) (above : List Contexts) (left : Contexts) : Type 0 where
-  pub levels_are : levels ≡ t.0.levels
-  pub some_is : some ≡ t.0.some
+-- these coefficients and this are the tokens of macroblock k, and the rest stands after them
+pub record HasRead (bytes : List ℕ) (parts : List (ℕ × ℕ)) (columns k : ℕ) (r : Progress) (t : Tokens × Interval) (coefficients : List (List ℤ)) (has_coefficients : Bool) (decoders : List Reading) (above : List Contexts) (left : Contexts) : Type 0 where
+  pub coefficients_are : coefficients ≡ t.0.coefficients
+  pub has_coefficients_are : has_coefficients ≡ t.0.has_coefficients
   pub holds : Holds bytes parts columns (progress_after (length parts) columns k r t) decoders above left
 
 -- predicted from samples of its own picture

@@ -1,4 +1,4 @@
--- The token partitions: the levels of all macroblocks (RFC 6386, 9.5 and 13).
+-- The token partitions: the coefficients of all macroblocks (RFC 6386, 9.5 and 13).
 use Rattle.std.specs.Prelude.{ℕ, ◌+◌, ◌/◌, ◌%◌, List, [], ◌∷◌, Bool, if◌then◌else◌, ◌==◌, length, replicate, slice_index_or, slice_range, slice_set}
 use Rattle.sal_bool.specs.Bits.{Interval, start}
 use Rattle.sal_bool.specs.Syntax.{read}
@@ -28,23 +28,23 @@ part_of count columns k = k / columns % count
 -- the tokens of a macroblock out of the bytes of its partition, from here on, and how far it is read after them; a skipped one
 -- has none
 abbrev pub tokens_in : List ℕ → Interval → List ℕ → MbMode → List Bool → List Bool → Tokens × Interval
-tokens_in bytes from coefficients m above left =
-    if m.skip then (skipped (has_y2 m.y) above left, from) else read bytes from (macroblock coefficients (has_y2 m.y) above left)
+tokens_in bytes from probabilities m above left =
+    if m.skip then (skipped (has_y2 m.y) above left, from) else read bytes from (macroblock probabilities (has_y2 m.y) above left)
 
 -- those of macroblock k, and how far its partition is read
 unfoldable pub tokens_of : List ℕ → List (ℕ × ℕ) → List ℕ → ℕ → ℕ → MbMode → Progress → Tokens × Interval
-tokens_of bytes parts coefficients columns k m r =
+tokens_of bytes parts probabilities columns k m r =
     let part = part_of (length parts) columns k in
-    tokens_in (part_bytes bytes parts part) (slice_index_or r.read_to part start) coefficients m (slice_index_or r.above (k % columns) no_contexts)
+    tokens_in (part_bytes bytes parts part) (slice_index_or r.read_to part start) probabilities m (slice_index_or r.above (k % columns) no_contexts)
     (if k % columns == 0 then no_contexts else r.left)
 
 abbrev pub progress_after : ℕ → ℕ → ℕ → Progress → Tokens × Interval → Progress
 progress_after count columns k r t =
     record { read_to = slice_set r.read_to (part_of count columns k) t.1; above = slice_set r.above (k % columns) t.0.above; left = t.0.left }
 
--- the macroblocks from the k-th on, with their levels
+-- the macroblocks from the k-th on, with their coefficients
 unfoldable pub macroblocks : List ℕ → List (ℕ × ℕ) → List ℕ → ℕ → ℕ → List MbMode → Progress → List Macroblock
-macroblocks bytes parts coefficients columns k [] r = []
-macroblocks bytes parts coefficients columns k (m ∷ ms) r =
-    let t = tokens_of bytes parts coefficients columns k m r in
-    record { mode = m; levels = t.0.levels; some = t.0.some } ∷ macroblocks bytes parts coefficients columns (k + 1) ms (progress_after (length parts) columns k r t)
+macroblocks bytes parts probabilities columns k [] r = []
+macroblocks bytes parts probabilities columns k (m ∷ ms) r =
+    let t = tokens_of bytes parts probabilities columns k m r in
+    record { mode = m; coefficients = t.0.coefficients; has_coefficients = t.0.has_coefficients } ∷ macroblocks bytes parts probabilities columns (k + 1) ms (progress_after (length parts) columns k r t)

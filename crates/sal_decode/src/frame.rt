@@ -3,22 +3,23 @@
 ghost use Rattle.std.specs.Prelude.{◌≡◌, ◌*◌, ◌≤◌, List, [], IfOk, IfSome, None, Ok, Err, true, false, length, take};
 ghost use Rattle.sal_base.specs.declared.coding.Fault.{Fault as FaultData};
 ghost use Rattle.sal_base.specs.declared.coding.DecodeFault.TheVariants.{Bad};
-ghost use Rattle.sal_base.specs.Picture.{AreSides};
+ghost use Rattle.sal_base.specs.Picture.{AreSides, IsPicture};
 ghost use Rattle.sal_base.specs.Pictures.{blocks_of};
 ghost use Rattle.sal_bool.specs.Reading.{Reading};
 ghost use Rattle.sal_bool.specs.Syntax.{run};
 ghost use Rattle.sal_probs.specs.Probabilities.{used};
 ghost use Rattle.sal_header.specs.Tags.{AreInside};
 ghost use Rattle.sal_macroblock.specs.declared.mode.MbMode.{MbMode as Mode};
+ghost use Rattle.sal_state.specs.States.{IsState};
 ghost use Rattle.sal_decode.specs.Decode.{decode_of};
 ghost use Rattle.sal_decode.specs.FirstPartition.{mb_modes};
 ghost use Rattle.sal_decode.specs.Syntax.{frame_of, record_of};
 
-use crate::finish::finish;
 use crate::head::{Head, read_head};
 use crate::modes::read_modes;
-use crate::picture::{blocks_of, build_picture};
+use crate::picture::build_picture;
 use sal_base::{DecodeFault, Decoded, Memory};
+use sal_frame::{blocks_of, finish};
 use sal_state::State;
 use std::alloc::Global;
 
@@ -35,7 +36,9 @@ fn decode_frame(
     requires same { IfSome state.now.references (λ r. head.header.key ≡ false → (head.width ≡ r.width) × (head.height ≡ r.height)) }
     requires count { (1 ≤ head.parts.count) × (head.parts.count ≤ 8) }
     requires inside { AreInside (length bytes.now) head.parts.at head.parts.count }
-    ensures { IfOk result (λ d. decode_of state.now bytes.now ≡ Ok d) }
+    ensures decoded { IfOk result (λ d. decode_of state.now bytes.now ≡ Ok d) }
+    ensures picture { IfOk result (λ d. IsPicture d.picture) }
+    ensures state { IfOk result (λ d. IsState d.state) }
 {
     let Head {
         width,
@@ -78,9 +81,11 @@ fn decode_frame(
 /// `Bad` has the first fault of the bytes, in the order in which a decoder meets them, exactly where there is one: it is met before
 /// any memory is taken. Past the end of a partition there are zeros, so nothing but the faults of tag, size and partitions refuses
 /// a frame. `Memory` is the only other error. The state that the frame is decoded from stays as it is, and the next one shares the
-/// references that it keeps.
+/// references that it keeps. The picture is whole, and what is decoded from a state leads to a state.
 pub fn decode(alloc: Global, state: &State, bytes: &[u8]) -> Result<Decoded<State>, DecodeFault>
     ensures decoded { IfOk result (λ d. decode_of state.now bytes.now ≡ Ok d) }
+    ensures picture { IfOk result (λ d. IsPicture d.picture) }
+    ensures state { IfOk result (λ d. IsState d.state) }
     ensures fault { (f : FaultData) → result ≡ Err (Bad f) → decode_of state.now bytes.now ≡ Err f }
     ensures refused { (f : FaultData) → decode_of state.now bytes.now ≡ Err f → result ≡ Err (Bad f) }
 {

@@ -2,11 +2,9 @@
 //! fault of the bytes (RFC 6386, sections 9 to 19).
 #![tactic(auto)]
 
-mod after;
-mod finish;
+mod coefficients;
 mod frame;
 mod head;
-mod macroblock;
 mod modes;
 mod picture;
 mod segment;

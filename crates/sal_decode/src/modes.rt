@@ -2,7 +2,7 @@
 
 ghost use Rattle.std.specs.Prelude.{◌≡◌, ◌*◌, ◌≤◌, [], All, IfOk, length, true};
 ghost use Rattle.sal_bool.specs.Syntax.{run};
-ghost use Rattle.sal_modes.specs.Modes.{HasFittingModes};
+ghost use Rattle.sal_macroblock.specs.Macroblocks.{HasFittingModes};
 ghost use Rattle.sal_decode.specs.FirstPartition.{mb_modes};
 ghost use Rattle.sal_decode.specs.Standing.{IsIntraKind};
 

@@ -2,62 +2,26 @@
 
 ghost use Rattle.std.specs.Prelude.{◌≡◌, ◌≤◌, ◌*◌, All, IfOk, None, true, length, map, take};
 ghost use Rattle.sal_base.specs.Picture.{AreSides};
-ghost use Rattle.sal_base.specs.Pictures.{blank, blocks_of};
+ghost use Rattle.sal_base.specs.Pictures.{blocks_of};
 ghost use Rattle.sal_probs.specs.Probabilities.{used};
 ghost use Rattle.sal_header.specs.Tags.{AreInside};
-ghost use Rattle.sal_modes.specs.Modes.{HasFittingModes};
+ghost use Rattle.sal_macroblock.specs.Macroblocks.{HasFittingModes};
 ghost use Rattle.sal_state.specs.States.{HasBlocks};
 ghost use Rattle.sal_frame.specs.Records.{info_of};
-ghost use Rattle.sal_frame.specs.Built.{blanks, built};
+ghost use Rattle.sal_frame.specs.Built.{built};
 ghost use Rattle.sal_decode.specs.Standing.{IsIntraKind};
 ghost use Rattle.sal_decode.specs.Syntax.{record_of};
 
-use crate::macroblock::build;
-use crate::segment::in_segment;
+use crate::segment::{factors_in, in_segment};
 use crate::tokens::Tokens;
-use sal_base::{Bytes, Memory, Plane, Planes};
+use sal_base::{Memory, Planes};
 use sal_filter::MbInfo;
-use sal_frame::info_of;
+use sal_frame::{Macroblock, blanks, blocks_of, build, frame_factors, info_of};
 use sal_header::{Header, Parts};
-use sal_macroblock::{Levels, MbMode};
+use sal_macroblock::{Coefficients, MbMode};
 use sal_probs::Probs;
 use sal_state::State;
 use std::alloc::Global;
-
-/// How many macroblocks a side takes.
-pub(crate) fn blocks_of(side: u16) -> usize
-    ensures { result ≡ blocks_of side }
-{
-    side.div_ceil(16) as usize
-}
-
-// A plane of zeros.
-fn blank(alloc: Global, width: u16, height: u16) -> Result<Plane, Memory>
-    ensures { IfOk result (λ p. p ≡ blank width height) }
-{
-    let samples = Bytes::repeat(alloc, 0, width as usize * height as usize)?;
-    Ok(Plane {
-        width,
-        height,
-        samples,
-    })
-}
-
-// Planes of so many macroblocks with nothing built yet.
-#[tactic(auto, unfolding(sal_frame::specs::Built::blanks))]
-fn blanks(alloc: Global, columns: usize, rows: usize) -> Result<Planes, Memory>
-    requires columns { columns ≤ 80 }
-    requires rows { rows ≤ 45 }
-    ensures { IfOk result (λ p. p ≡ blanks columns rows) }
-{
-    let columns = columns as u16;
-    let rows = rows as u16;
-    Ok(Planes {
-        y: blank(alloc, 16 * columns, 16 * rows)?,
-        u: blank(alloc, 8 * columns, 8 * rows)?,
-        v: blank(alloc, 8 * columns, 8 * rows)?,
-    })
-}
 
 /// The unfiltered planes of a frame with these modes, and what the loop filter needs of its macroblocks.
 pub(crate) fn build_picture(
@@ -88,28 +52,28 @@ pub(crate) fn build_picture(
 {
     let columns = blocks_of(width);
     let references = state.references();
+    let factors = frame_factors(header);
     let map = state.kept().map.as_slice();
     let mut tokens = Tokens::begin(alloc, bytes, parts, columns)?;
     let mut planes = blanks(alloc, columns, blocks_of(height))?;
-    let mut levels = Levels::none();
+    let mut coefficients = Coefficients::none();
     let mut infos = Vec::new(alloc);
     infos.reserve(modes.len())?;
     for k in 0..modes.len() {
         let column = k % columns;
         let row = k / columns;
         let mode = in_segment(header, map, k, &modes[k]);
-        let some = tokens.read(probs, &mode, &mut levels, column, row);
+        let has_coefficients = tokens.read(probs, &mode, &mut coefficients, column, row);
+        let block = Macroblock::new(&mode, &coefficients, has_coefficients);
         build(
             &mut planes,
             references,
-            header,
-            &mode,
-            &levels,
-            some,
+            &block,
+            factors_in(&factors, mode.segment),
             column as u16,
             row as u16,
         );
-        infos.push(info_of(&mode, some))?;
+        infos.push(info_of(&block))?;
     }
     Ok((planes, infos))
 }

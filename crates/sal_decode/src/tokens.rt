@@ -2,16 +2,16 @@
 
 ghost use Rattle.std.specs.Prelude.{◌≡◌, ◌<◌, ◌≤◌, ◌/◌, ◌%◌, ℕ, List, IfOk, false, length, take, if◌then◌else◌, ◌==◌};
 ghost use Rattle.sal_header.specs.Tags.{AreInside};
-ghost use Rattle.sal_macroblock.specs.Blocks.{no_levels};
+ghost use Rattle.sal_macroblock.specs.Blocks.{no_coefficients};
 ghost use Rattle.sal_tokens.specs.Blocks.{no_contexts};
 ghost use Rattle.sal_decode.specs.TokenPartitions.{Progress, begun, tokens_of};
 ghost use Rattle.sal_decode.specs.Standing.{AreOpened, Holds, HasRead};
 
-use crate::macroblock::read_levels;
+use crate::coefficients::read_coefficients;
 use sal_base::Memory;
 use sal_bool::Decoder;
 use sal_header::Parts;
-use sal_macroblock::{Levels, MbMode};
+use sal_macroblock::{Coefficients, MbMode};
 use sal_probs::Probs;
 use sal_tokens::Contexts;
 use std::alloc::Global;
@@ -69,29 +69,29 @@ impl<'a> Tokens<'a> {
         })
     }
 
-    /// The levels of the macroblock at a column and row, and whether some block's first token isn't the end.
+    /// The coefficients of the macroblock at a column and row, and whether some block's first token isn't the end.
     pub(crate) fn read(
         &mut self,
         probs: &Probs,
         mode: &MbMode,
-        levels: &mut Levels,
+        coefficients: &mut Coefficients,
         column: usize,
         row: usize,
     ) -> bool
         requires some { 1 ≤ length self.old.decoders.items }
         requires column { column < length self.old.above.items }
-        ensures reads { (bytes : List ℕ) (parts : List (ℕ × ℕ)) (columns k : ℕ) (r : Progress) → k % columns ≡ column → k / columns ≡ row → Holds bytes parts columns r self.old.decoders.items self.old.above.items self.old.left → HasRead bytes parts columns k r (tokens_of bytes parts probs.now.coefficients columns k mode.now r) levels.new result self.new.decoders.items self.new.above.items self.new.left }
-        ensures none { result ≡ false → levels.new ≡ no_levels }
+        ensures reads { (bytes : List ℕ) (parts : List (ℕ × ℕ)) (columns k : ℕ) (r : Progress) → k % columns ≡ column → k / columns ≡ row → Holds bytes parts columns r self.old.decoders.items self.old.above.items self.old.left → HasRead bytes parts columns k r (tokens_of bytes parts probs.now.coefficients columns k mode.now r) coefficients.new result self.new.decoders.items self.new.above.items self.new.left }
+        ensures none { result ≡ false → coefficients.new ≡ no_coefficients }
     {
         self.left = left_of(column, self.left);
         let part = row % self.decoders.as_slice().len();
-        read_levels(
+        read_coefficients(
             &mut self.decoders[part],
             probs,
             mode,
             &mut self.above[column],
             &mut self.left,
-            levels,
+            coefficients,
         )
     }
 }

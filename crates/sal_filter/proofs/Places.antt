@@ -6,46 +6,46 @@ use Rattle.sal_filter.specs.declared.across.Across.{Across}
 use Rattle.sal_filter.specs.declared.edge.Edge.{Edge}
 use Rattle.sal_filter.specs.declared.edge.Sort.{Sort}
 use Rattle.sal_filter.specs.declared.edge.Sort.TheVariants.{Simple, Inner, Outer}
-use Rattle.sal_filter.specs.Edges.{AreSigned, IsSigned, s, is_near, is_smooth, is_steep, place_filtered, simple, inner, outer, step, inner_step, lost, gained, half_lost, part}
+use Rattle.sal_filter.specs.Edges.{AreSigned, IsSigned, signed_clamp, is_near, is_smooth, has_high_variance, place_filtered, simple, inner, outer, step, inner_step, q0_adjustment, p0_adjustment, q1_adjustment, part}
 use Rattle.sal_filter.specs.Filtered.{across, across_put, place_put, edge_filtered}
 use Rattle.sal_filter.specs.Lanes.{edge_place}
 
-cut_signed : (x : ℤ) → IsSigned (s x)
+cut_signed : (x : ℤ) → IsSigned (signed_clamp x)
 cut_signed x = (omega (arith, ints, clamps), omega (arith, ints, clamps))
 
 pub simple_signed : (a : Across) → AreSigned a → AreSigned (simple a)
 unfolding simple
 simple_signed a h =
-    let w = step (s (a.p1 -ℤ a.q1)) a in
-    record { p3 = h.p3; p2 = h.p2; p1 = h.p1; p0 = cut_signed (a.p0 +ℤ gained w); q0 = cut_signed (a.q0 -ℤ lost w); q1 = h.q1; q2 = h.q2; q3 = h.q3 }
+    let w = step (signed_clamp (a.p1 -ℤ a.q1)) a in
+    record { p3 = h.p3; p2 = h.p2; p1 = h.p1; p0 = cut_signed (a.p0 +ℤ p0_adjustment w); q0 = cut_signed (a.q0 -ℤ q0_adjustment w); q1 = h.q1; q2 = h.q2; q3 = h.q3 }
 
-pub inner_signed : (steep : Bool) (a : Across) → AreSigned a → AreSigned (inner steep a)
+pub inner_signed : (high_variance : Bool) (a : Across) → AreSigned a → AreSigned (inner high_variance a)
 unfolding inner
 inner_signed true a h =
     let w = inner_step true a in
-    record { p3 = h.p3; p2 = h.p2; p1 = h.p1; p0 = cut_signed (a.p0 +ℤ gained w); q0 = cut_signed (a.q0 -ℤ lost w); q1 = h.q1; q2 = h.q2; q3 = h.q3 }
+    record { p3 = h.p3; p2 = h.p2; p1 = h.p1; p0 = cut_signed (a.p0 +ℤ p0_adjustment w); q0 = cut_signed (a.q0 -ℤ q0_adjustment w); q1 = h.q1; q2 = h.q2; q3 = h.q3 }
 inner_signed false a h =
     let w = inner_step false a in
-    record { p3 = h.p3; p2 = h.p2; p1 = cut_signed (a.p1 +ℤ half_lost w); p0 = cut_signed (a.p0 +ℤ gained w); q0 = cut_signed (a.q0 -ℤ lost w); q1 = cut_signed (a.q1 -ℤ half_lost w); q2 = h.q2; q3 = h.q3 }
+    record { p3 = h.p3; p2 = h.p2; p1 = cut_signed (a.p1 +ℤ q1_adjustment w); p0 = cut_signed (a.p0 +ℤ p0_adjustment w); q0 = cut_signed (a.q0 -ℤ q0_adjustment w); q1 = cut_signed (a.q1 -ℤ q1_adjustment w); q2 = h.q2; q3 = h.q3 }
 
-pub outer_signed : (steep : Bool) (a : Across) → AreSigned a → AreSigned (outer steep a)
+pub outer_signed : (high_variance : Bool) (a : Across) → AreSigned a → AreSigned (outer high_variance a)
 unfolding outer
 outer_signed true a h =
-    let w = step (s (a.p1 -ℤ a.q1)) a in
-    record { p3 = h.p3; p2 = h.p2; p1 = h.p1; p0 = cut_signed (a.p0 +ℤ gained w); q0 = cut_signed (a.q0 -ℤ lost w); q1 = h.q1; q2 = h.q2; q3 = h.q3 }
+    let w = step (signed_clamp (a.p1 -ℤ a.q1)) a in
+    record { p3 = h.p3; p2 = h.p2; p1 = h.p1; p0 = cut_signed (a.p0 +ℤ p0_adjustment w); q0 = cut_signed (a.q0 -ℤ q0_adjustment w); q1 = h.q1; q2 = h.q2; q3 = h.q3 }
 outer_signed false a h =
-    let w = step (s (a.p1 -ℤ a.q1)) a in
+    let w = step (signed_clamp (a.p1 -ℤ a.q1)) a in
     record { p3 = h.p3; p2 = cut_signed (a.p2 +ℤ part 9 w); p1 = cut_signed (a.p1 +ℤ part 18 w); p0 = cut_signed (a.p0 +ℤ part 27 w); q0 = cut_signed (a.q0 -ℤ part 27 w); q1 = cut_signed (a.q1 -ℤ part 18 w); q2 = cut_signed (a.q2 -ℤ part 9 w); q3 = h.q3 }
 
 by_simple : (t : Sort) (l i h : ℕ) (a : Across) (b : Bool) → t ≡ Simple → b ≡ is_near l a → place_filtered t l i h a ≡ cond b (simple a) a
 unfolding place_filtered
 by_simple t l i h a b e f = rw (e, f) refl
 
-by_inner : (t : Sort) (l i h : ℕ) (a : Across) (b : Bool) → t ≡ Inner → b ≡ (is_near l a && is_smooth i a) → place_filtered t l i h a ≡ cond b (inner (is_steep h a) a) a
+by_inner : (t : Sort) (l i h : ℕ) (a : Across) (b : Bool) → t ≡ Inner → b ≡ (is_near l a && is_smooth i a) → place_filtered t l i h a ≡ cond b (inner (has_high_variance h a) a) a
 unfolding place_filtered
 by_inner t l i h a b e f = rw (e, f) refl
 
-by_outer : (t : Sort) (l i h : ℕ) (a : Across) (b : Bool) → t ≡ Outer → b ≡ (is_near l a && is_smooth i a) → place_filtered t l i h a ≡ cond b (outer (is_steep h a) a) a
+by_outer : (t : Sort) (l i h : ℕ) (a : Across) (b : Bool) → t ≡ Outer → b ≡ (is_near l a && is_smooth i a) → place_filtered t l i h a ≡ cond b (outer (has_high_variance h a) a) a
 unfolding place_filtered
 by_outer t l i h a b e f = rw (e, f) refl
 
@@ -59,7 +59,7 @@ simple_left e a b t n f = sym (by_simple e.sort e.limit e.interior e.threshold a
 pub simple_done : (e : Edge) (a m : Across) (b : Bool) → e.sort ≡ Simple → b ≡ is_near e.limit a → b ≡ true → m ≡ simple a → m ≡ edge_place e a
 simple_done e a m b t n f s = s ∙ sym (by_simple e.sort e.limit e.interior e.threshold a b t n ∙ chosen b true _ _ f)
 
-pub inner_value : (e : Edge) (a m : Across) (b h : Bool) → e.sort ≡ Inner → b ≡ (is_near e.limit a && is_smooth e.interior a) → h ≡ is_steep e.threshold a → m ≡ cond b (inner h a) a → m ≡ edge_place e a
+pub inner_value : (e : Edge) (a m : Across) (b h : Bool) → e.sort ≡ Inner → b ≡ (is_near e.limit a && is_smooth e.interior a) → h ≡ has_high_variance e.threshold a → m ≡ cond b (inner h a) a → m ≡ edge_place e a
 inner_value e a m b h t n v s = s ∙ (ap (λ (k : Bool). cond b (inner k a) a) v ∙ sym (by_inner e.sort e.limit e.interior e.threshold a b t n))
 
 either_inner : (b h : Bool) (a : Across) → AreSigned a → AreSigned (cond b (inner h a) a)
@@ -69,7 +69,7 @@ either_inner false h a s = s
 pub inner_stays : (b h : Bool) (a m : Across) → AreSigned a → m ≡ cond b (inner h a) a → AreSigned m
 inner_stays b h a m s e = subst AreSigned (sym e) (either_inner b h a s)
 
-pub outer_value : (e : Edge) (a m : Across) (b h : Bool) → e.sort ≡ Outer → b ≡ (is_near e.limit a && is_smooth e.interior a) → h ≡ is_steep e.threshold a → m ≡ cond b (outer h a) a → m ≡ edge_place e a
+pub outer_value : (e : Edge) (a m : Across) (b h : Bool) → e.sort ≡ Outer → b ≡ (is_near e.limit a && is_smooth e.interior a) → h ≡ has_high_variance e.threshold a → m ≡ cond b (outer h a) a → m ≡ edge_place e a
 outer_value e a m b h t n v s = s ∙ (ap (λ (k : Bool). cond b (outer k a) a) v ∙ sym (by_outer e.sort e.limit e.interior e.threshold a b t n))
 
 either_outer : (b h : Bool) (a : Across) → AreSigned a → AreSigned (cond b (outer h a) a)

@@ -4,7 +4,7 @@ use Rattle.std.proofs.lemmas.Int.{ints}
 use Rattle.std.specs.Int.{int_shr}
 use Rattle.sal_filter.specs.declared.across.Across.{Across}
 use Rattle.sal_macroblock.specs.Sizes.{Within}
-use Rattle.sal_filter.specs.Edges.{AreSigned, s}
+use Rattle.sal_filter.specs.Edges.{AreSigned, signed_clamp}
 
 -- all eight samples are at most 128 in size
 pub record AreSmall (a : Across) : Type 0 where
@@ -42,22 +42,22 @@ as_passed z = to_z w16 (of_z w16 z)
 pub passed : (x y : ℤ) → Within 128 x → x ≡ y → as_passed x ≡ y
 passed x y h e = held x y e h
 
-pub back_to : (z x y x' y' : ℤ) → z ≡ s (as_passed x -ℤ as_passed y) → Within 128 x → Within 128 y → x ≡ x' → y ≡ y' → z ≡ s (x' -ℤ y')
-back_to z x y x' y' e hx hy ex ey = e ∙ (ap (λ (a : ℤ). s (a -ℤ as_passed y)) (passed x x' hx ex) ∙ ap (λ (b : ℤ). s (x' -ℤ b)) (passed y y' hy ey))
+pub back_to : (z x y x' y' : ℤ) → z ≡ signed_clamp (as_passed x -ℤ as_passed y) → Within 128 x → Within 128 y → x ≡ x' → y ≡ y' → z ≡ signed_clamp (x' -ℤ y')
+back_to z x y x' y' e hx hy ex ey = e ∙ (ap (λ (a : ℤ). signed_clamp (a -ℤ as_passed y)) (passed x x' hx ex) ∙ ap (λ (b : ℤ). signed_clamp (x' -ℤ b)) (passed y y' hy ey))
 
-pub on_to : (z x y x' y' : ℤ) → z ≡ s (as_passed x +ℤ as_passed y) → Within 128 x → Within 128 y → x ≡ x' → y ≡ y' → z ≡ s (x' +ℤ y')
-on_to z x y x' y' e hx hy ex ey = e ∙ (ap (λ (a : ℤ). s (a +ℤ as_passed y)) (passed x x' hx ex) ∙ ap (λ (b : ℤ). s (x' +ℤ b)) (passed y y' hy ey))
+pub on_to : (z x y x' y' : ℤ) → z ≡ signed_clamp (as_passed x +ℤ as_passed y) → Within 128 x → Within 128 y → x ≡ x' → y ≡ y' → z ≡ signed_clamp (x' +ℤ y')
+on_to z x y x' y' e hx hy ex ey = e ∙ (ap (λ (a : ℤ). signed_clamp (a +ℤ as_passed y)) (passed x x' hx ex) ∙ ap (λ (b : ℤ). signed_clamp (x' +ℤ b)) (passed y y' hy ey))
 
-pub step_to : (z x p q x' : ℤ) → z ≡ s (as_passed x +ℤ pos 3 *ℤ (as_passed q -ℤ as_passed p)) → Within 128 x → Within 128 p → Within 128 q → x ≡ x' → z ≡ s (x' +ℤ pos 3 *ℤ (q -ℤ p))
+pub step_to : (z x p q x' : ℤ) → z ≡ signed_clamp (as_passed x +ℤ pos 3 *ℤ (as_passed q -ℤ as_passed p)) → Within 128 x → Within 128 p → Within 128 q → x ≡ x' → z ≡ signed_clamp (x' +ℤ pos 3 *ℤ (q -ℤ p))
 step_to z x p q x' e hx hp hq ex =
-    e ∙ (ap (λ (a : ℤ). s (a +ℤ pos 3 *ℤ (as_passed q -ℤ as_passed p))) (passed x x' hx ex)
-    ∙ (ap (λ (b : ℤ). s (x' +ℤ pos 3 *ℤ (b -ℤ as_passed p))) (kept q hq) ∙ ap (λ (b : ℤ). s (x' +ℤ pos 3 *ℤ (q -ℤ b))) (kept p hp)))
+    e ∙ (ap (λ (a : ℤ). signed_clamp (a +ℤ pos 3 *ℤ (as_passed q -ℤ as_passed p))) (passed x x' hx ex)
+    ∙ (ap (λ (b : ℤ). signed_clamp (x' +ℤ pos 3 *ℤ (b -ℤ as_passed p))) (kept q hq) ∙ ap (λ (b : ℤ). signed_clamp (x' +ℤ pos 3 *ℤ (q -ℤ b))) (kept p hp)))
 
 pub step_sum : (o p q : ℤ) → Within 128 o → Within 128 p → Within 128 q → as_passed (as_passed o +ℤ as_passed (pos 3 *ℤ as_passed (as_passed q -ℤ as_passed p))) ≡ o +ℤ pos 3 *ℤ (q -ℤ p)
 step_sum o p q ho hp hq = omega (arith, ints)
 
-pub part_to : (z r x y : ℤ) → z ≡ s (as_passed r) → r ≡ int_shr (as_passed x +ℤ pos 63) 7 → Within 128 r → as_passed x ≡ y → z ≡ s (int_shr (y +ℤ pos 63) 7)
-part_to z r x y e f h g = e ∙ ap (λ (v : ℤ). s v) (passed r (int_shr (y +ℤ pos 63) 7) h (f ∙ ap (λ (v : ℤ). int_shr (v +ℤ pos 63) 7) g))
+pub part_to : (z r x y : ℤ) → z ≡ signed_clamp (as_passed r) → r ≡ int_shr (as_passed x +ℤ pos 63) 7 → Within 128 r → as_passed x ≡ y → z ≡ signed_clamp (int_shr (y +ℤ pos 63) 7)
+part_to z r x y e f h g = e ∙ ap (λ (v : ℤ). signed_clamp v) (passed r (int_shr (y +ℤ pos 63) 7) h (f ∙ ap (λ (v : ℤ). int_shr (v +ℤ pos 63) 7) g))
 
 pub times_27 : (w : ℤ) → Within 128 w → as_passed (pos 27 *ℤ as_passed w) ≡ pos 27 *ℤ w
 times_27 w h = omega (arith, ints)

@@ -5,7 +5,7 @@ use Rattle.std.proofs.lemmas.Bool.{cases_lt}
 use Rattle.sal_filter.specs.declared.edge.Edge.{Edge}
 use Rattle.sal_filter.specs.declared.block.Square.{Square}
 use Rattle.sal_filter.specs.Filtered.{edge_filtered}
-use Rattle.sal_filter.specs.Blocks.{Fits, upright, level, fourths, uprights, levels, square_filtered}
+use Rattle.sal_filter.specs.Blocks.{Fits, vertical_edge, horizontal_edge, fourths, vertical_edges, horizontal_edges, square_filtered}
 use Rattle.sal_filter.proofs.Places.{length_edge}
 
 -- an index in row r of a list that has the rows below bottom
@@ -38,10 +38,10 @@ level_apart s xs d m f b c e =
 pub whole_side : (s : Square) (xs : List ℕ) → Fits s xs → 8 * (s.side / 8) ≡ s.side
 whole_side s xs f = omega (arith, f.eights)
 
-pub upright_whole : (e : Edge) (s : Square) (offset : ℕ) (xs ys : List ℕ) → Fits s xs → ys ≡ edge_filtered e (s.y * s.width + s.x + offset) 1 s.width (8 * (s.side / 8)) xs → ys ≡ upright e s offset xs
+pub upright_whole : (e : Edge) (s : Square) (offset : ℕ) (xs ys : List ℕ) → Fits s xs → ys ≡ edge_filtered e (s.y * s.width + s.x + offset) 1 s.width (8 * (s.side / 8)) xs → ys ≡ vertical_edge e s offset xs
 upright_whole e s offset xs ys f p = p ∙ ap (λ (n : ℕ). edge_filtered e (s.y * s.width + s.x + offset) 1 s.width n xs) (whole_side s xs f)
 
-pub level_whole : (e : Edge) (s : Square) (offset : ℕ) (xs ys : List ℕ) → Fits s xs → ys ≡ edge_filtered e ((s.y + offset) * s.width + s.x) s.width 1 (8 * (s.side / 8)) xs → ys ≡ level e s offset xs
+pub level_whole : (e : Edge) (s : Square) (offset : ℕ) (xs ys : List ℕ) → Fits s xs → ys ≡ edge_filtered e ((s.y + offset) * s.width + s.x) s.width 1 (8 * (s.side / 8)) xs → ys ≡ horizontal_edge e s offset xs
 level_whole e s offset xs ys f p = p ∙ ap (λ (n : ℕ). edge_filtered e ((s.y + offset) * s.width + s.x) s.width 1 n xs) (whole_side s xs f)
 
 -- a square in a plane
@@ -73,24 +73,24 @@ length_if : (b : Bool) (xs ys zs : List ℕ) → length xs ≡ length zs → len
 length_if true xs ys zs h g = h
 length_if false xs ys zs h g = g
 
-length_upright : (e : Edge) (s : Square) (offset : ℕ) (xs : List ℕ) → length (upright e s offset xs) ≡ length xs
+length_upright : (e : Edge) (s : Square) (offset : ℕ) (xs : List ℕ) → length (vertical_edge e s offset xs) ≡ length xs
 length_upright e s offset xs = length_edge e (s.y * s.width + s.x + offset) 1 s.width s.side xs
 
-length_level : (e : Edge) (s : Square) (offset : ℕ) (xs : List ℕ) → length (level e s offset xs) ≡ length xs
+length_level : (e : Edge) (s : Square) (offset : ℕ) (xs : List ℕ) → length (horizontal_edge e s offset xs) ≡ length xs
 length_level e s offset xs = length_edge e ((s.y + offset) * s.width + s.x) s.width 1 s.side xs
 
-length_uprights : (o i : Edge) (within : Bool) (s : Square) (xs : List ℕ) → length (uprights o i within s xs) ≡ length xs
+length_uprights : (o i : Edge) (within : Bool) (s : Square) (xs : List ℕ) → length (vertical_edges o i within s xs) ≡ length xs
 length_uprights o i within s xs =
-    let left = cond (nat_lt 0 s.x) (upright o s 0 xs) xs in
-    let e : length left ≡ length xs = length_if (nat_lt 0 s.x) (upright o s 0 xs) xs xs (length_upright o s 0 xs) refl in
-    length_if within (fourths (upright i s) (s.side / 4 - 1) left) left xs (length_fourths (upright i s) (s.side / 4 - 1) left (length_upright i s) ∙ e) e
+    let left = cond (nat_lt 0 s.x) (vertical_edge o s 0 xs) xs in
+    let e : length left ≡ length xs = length_if (nat_lt 0 s.x) (vertical_edge o s 0 xs) xs xs (length_upright o s 0 xs) refl in
+    length_if within (fourths (vertical_edge i s) (s.side / 4 - 1) left) left xs (length_fourths (vertical_edge i s) (s.side / 4 - 1) left (length_upright i s) ∙ e) e
 
-length_levels : (o i : Edge) (within : Bool) (s : Square) (xs : List ℕ) → length (levels o i within s xs) ≡ length xs
+length_levels : (o i : Edge) (within : Bool) (s : Square) (xs : List ℕ) → length (horizontal_edges o i within s xs) ≡ length xs
 length_levels o i within s xs =
-    let top = cond (nat_lt 0 s.y) (level o s 0 xs) xs in
-    let e : length top ≡ length xs = length_if (nat_lt 0 s.y) (level o s 0 xs) xs xs (length_level o s 0 xs) refl in
-    length_if within (fourths (level i s) (s.side / 4 - 1) top) top xs (length_fourths (level i s) (s.side / 4 - 1) top (length_level i s) ∙ e) e
+    let top = cond (nat_lt 0 s.y) (horizontal_edge o s 0 xs) xs in
+    let e : length top ≡ length xs = length_if (nat_lt 0 s.y) (horizontal_edge o s 0 xs) xs xs (length_level o s 0 xs) refl in
+    length_if within (fourths (horizontal_edge i s) (s.side / 4 - 1) top) top xs (length_fourths (horizontal_edge i s) (s.side / 4 - 1) top (length_level i s) ∙ e) e
 
 pub length_square : (o i : Edge) (within : Bool) (s : Square) (xs : List ℕ) → length (square_filtered o i within s xs) ≡ length xs
 unfolding square_filtered
-length_square o i within s xs = length_levels o i within s (uprights o i within s xs) ∙ length_uprights o i within s xs
+length_square o i within s xs = length_levels o i within s (vertical_edges o i within s xs) ∙ length_uprights o i within s xs

@@ -16,12 +16,12 @@ pub record Fits (s : Square) (samples : List ℕ) : Type 0 where
   pub top : 0 < s.y → 4 ≤ s.y
 
 -- its vertical edge this far from its left side
-abbrev pub upright : Edge → Square → ℕ → List ℕ → List ℕ
-upright e s offset samples = edge_filtered e (s.y * s.width + s.x + offset) 1 s.width s.side samples
+abbrev pub vertical_edge : Edge → Square → ℕ → List ℕ → List ℕ
+vertical_edge e s offset samples = edge_filtered e (s.y * s.width + s.x + offset) 1 s.width s.side samples
 
 -- its horizontal edge this far down
-abbrev pub level : Edge → Square → ℕ → List ℕ → List ℕ
-level e s offset samples = edge_filtered e ((s.y + offset) * s.width + s.x) s.width 1 s.side samples
+abbrev pub horizontal_edge : Edge → Square → ℕ → List ℕ → List ℕ
+horizontal_edge e s offset samples = edge_filtered e ((s.y + offset) * s.width + s.x) s.width 1 s.side samples
 
 -- f at 4, 8 and so on, n times
 unfoldable pub fourths : (ℕ → List ℕ → List ℕ) → ℕ → List ℕ → List ℕ
@@ -29,19 +29,19 @@ fourths f zero samples = samples
 fourths f (suc n) samples = f (4 * suc n) (fourths f n samples)
 
 -- its left edge and inner vertical edges
-abbrev pub uprights : Edge → Edge → Bool → Square → List ℕ → List ℕ
-uprights o i within s samples =
-    let left = if nat_lt 0 s.x then upright o s 0 samples else samples in
-    if within then fourths (upright i s) (s.side / 4 - 1) left else left
+abbrev pub vertical_edges : Edge → Edge → Bool → Square → List ℕ → List ℕ
+vertical_edges o i within s samples =
+    let left = if nat_lt 0 s.x then vertical_edge o s 0 samples else samples in
+    if within then fourths (vertical_edge i s) (s.side / 4 - 1) left else left
 
 -- its top edge and inner horizontal edges
-abbrev pub levels : Edge → Edge → Bool → Square → List ℕ → List ℕ
-levels o i within s samples =
-    let top = if nat_lt 0 s.y then level o s 0 samples else samples in
-    if within then fourths (level i s) (s.side / 4 - 1) top else top
+abbrev pub horizontal_edges : Edge → Edge → Bool → Square → List ℕ → List ℕ
+horizontal_edges o i within s samples =
+    let top = if nat_lt 0 s.y then horizontal_edge o s 0 samples else samples in
+    if within then fourths (horizontal_edge i s) (s.side / 4 - 1) top else top
 
 unfoldable pub square_filtered : Edge → Edge → Bool → Square → List ℕ → List ℕ
-square_filtered o i within s samples = levels o i within s (uprights o i within s samples)
+square_filtered o i within s samples = horizontal_edges o i within s (vertical_edges o i within s samples)
 
 -- the square of this side at this column and row of squares
 abbrev pub square_at : ℕ → ℕ → ℕ → ℕ → Square

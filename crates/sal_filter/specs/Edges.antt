@@ -20,9 +20,9 @@ pub record AreSigned (a : Across) : Type 0 where
   pub q2 : IsSigned a.q2
   pub q3 : IsSigned a.q3
 
--- cut off to a signed byte
-abbrev pub s : ℤ → ℤ
-s x = int_min (pos 127) (int_max (neg_ℤ (pos 128)) x)
+-- cut off to a signed byte (c)
+abbrev pub signed_clamp : ℤ → ℤ
+signed_clamp x = int_min (pos 127) (int_max (neg_ℤ (pos 128)) x)
 
 -- how far two samples are apart
 abbrev pub distance : ℤ → ℤ → ℕ
@@ -39,63 +39,63 @@ is_even limit x3 x2 x1 x0 = nat_le (distance x3 x2) limit && nat_le (distance x2
 abbrev pub is_smooth : ℕ → Across → Bool
 is_smooth limit a = is_even limit a.p3 a.p2 a.p1 a.p0 && is_even limit a.q3 a.q2 a.q1 a.q0
 
--- high variance next to the edge
-abbrev pub is_steep : ℕ → Across → Bool
-is_steep threshold a = nat_lt threshold (distance a.p1 a.p0) || nat_lt threshold (distance a.q1 a.q0)
+-- high edge variance (hev)
+abbrev pub has_high_variance : ℕ → Across → Bool
+has_high_variance threshold a = nat_lt threshold (distance a.p1 a.p0) || nat_lt threshold (distance a.q1 a.q0)
 
--- what the sample after the edge loses, and what the one before it gains
-unfoldable pub lost : ℤ → ℤ
-lost x = int_shr (s (x +ℤ pos 4)) 3
+-- what is taken from the sample after the edge, q0, and what is added to the one before it, p0 (common_adjust)
+unfoldable pub q0_adjustment : ℤ → ℤ
+q0_adjustment x = int_shr (signed_clamp (x +ℤ pos 4)) 3
 
-unfoldable pub gained : ℤ → ℤ
-gained x = int_shr (s (x +ℤ pos 3)) 3
+unfoldable pub p0_adjustment : ℤ → ℤ
+p0_adjustment x = int_shr (signed_clamp (x +ℤ pos 3)) 3
 
 -- the two nearest samples moved
 abbrev pub common : ℤ → Across → Across
-common x a = record a { q0 = s (a.q0 -ℤ lost x); p0 = s (a.p0 +ℤ gained x) }
+common x a = record a { q0 = signed_clamp (a.q0 -ℤ q0_adjustment x); p0 = signed_clamp (a.p0 +ℤ p0_adjustment x) }
 
 -- an adjustment by three times the step across the edge
 abbrev pub step : ℤ → Across → ℤ
-step outer a = s (outer +ℤ pos 3 *ℤ (a.q0 -ℤ a.p0))
+step outer a = signed_clamp (outer +ℤ pos 3 *ℤ (a.q0 -ℤ a.p0))
 
 -- the simple filter (15.2)
 unfoldable pub simple : Across → Across
-simple a = common (step (s (a.p1 -ℤ a.q1)) a) a
+simple a = common (step (signed_clamp (a.p1 -ℤ a.q1)) a) a
 
--- half of what is lost, rounded up
-unfoldable pub half_lost : ℤ → ℤ
-half_lost x = int_shr (lost x +ℤ pos 1) 1
+-- what is taken from q1 and added to p1: half of what is taken from q0, rounded up
+unfoldable pub q1_adjustment : ℤ → ℤ
+q1_adjustment x = int_shr (q0_adjustment x +ℤ pos 1) 1
 
 abbrev pub inner_step : Bool → Across → ℤ
-inner_step steep a = step (if steep then s (a.p1 -ℤ a.q1) else pos 0) a
+inner_step high_variance a = step (if high_variance then signed_clamp (a.p1 -ℤ a.q1) else pos 0) a
 
 -- within a macroblock: without high variance the next two samples move by half as much
 unfoldable pub inner : Bool → Across → Across
-inner steep a =
-    let x = inner_step steep a in
+inner high_variance a =
+    let x = inner_step high_variance a in
     let moved = common x a in
-    if steep then moved else record moved { q1 = s (a.q1 -ℤ half_lost x); p1 = s (a.p1 +ℤ half_lost x) }
+    if high_variance then moved else record moved { q1 = signed_clamp (a.q1 -ℤ q1_adjustment x); p1 = signed_clamp (a.p1 +ℤ q1_adjustment x) }
 
 -- k parts in 128, rounded
 unfoldable pub part : ℕ → ℤ → ℤ
-part k w = s (int_shr ((pos k *ℤ w) +ℤ pos 63) 7)
+part k w = signed_clamp (int_shr ((pos k *ℤ w) +ℤ pos 63) 7)
 
 -- between macroblocks: without high variance three samples on each side move
 unfoldable pub outer : Bool → Across → Across
-outer steep a =
-    let w = step (s (a.p1 -ℤ a.q1)) a in
-    if steep then common w a
+outer high_variance a =
+    let w = step (signed_clamp (a.p1 -ℤ a.q1)) a in
+    if high_variance then common w a
     else record a {
-      q0 = s (a.q0 -ℤ part 27 w);
-      p0 = s (a.p0 +ℤ part 27 w);
-      q1 = s (a.q1 -ℤ part 18 w);
-      p1 = s (a.p1 +ℤ part 18 w);
-      q2 = s (a.q2 -ℤ part 9 w);
-      p2 = s (a.p2 +ℤ part 9 w);
+      q0 = signed_clamp (a.q0 -ℤ part 27 w);
+      p0 = signed_clamp (a.p0 +ℤ part 27 w);
+      q1 = signed_clamp (a.q1 -ℤ part 18 w);
+      p1 = signed_clamp (a.p1 +ℤ part 18 w);
+      q2 = signed_clamp (a.q2 -ℤ part 9 w);
+      p2 = signed_clamp (a.p2 +ℤ part 9 w);
     }
 
 -- one place, by the limits of its macroblock
 unfoldable pub place_filtered : Sort → ℕ → ℕ → ℕ → Across → Across
 place_filtered Simple edge interior threshold a = if is_near edge a then simple a else a
-place_filtered Inner edge interior threshold a = if is_near edge a && is_smooth interior a then inner (is_steep threshold a) a else a
-place_filtered Outer edge interior threshold a = if is_near edge a && is_smooth interior a then outer (is_steep threshold a) a else a
+place_filtered Inner edge interior threshold a = if is_near edge a && is_smooth interior a then inner (has_high_variance threshold a) a else a
+place_filtered Outer edge interior threshold a = if is_near edge a && is_smooth interior a then outer (has_high_variance threshold a) a else a

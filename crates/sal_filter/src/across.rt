@@ -3,7 +3,7 @@
 ghost use Rattle.std.specs.Prelude.{◌≡◌, ◌+◌, ◌*◌, ◌≤◌, ◌<◌, ℤ, pos, neg_ℤ, ◌+ℤ◌, ◌-ℤ◌, ◌*ℤ◌, ◌≤ℤ◌, if◌then◌else◌};
 ghost use Rattle.std.specs.Int.{int_shr};
 ghost use Rattle.sal_macroblock.specs.Sizes.{Within};
-ghost use Rattle.sal_filter.specs.Edges.{AreSigned, s, lost, gained, common, step, simple, half_lost, inner, part, outer};
+ghost use Rattle.sal_filter.specs.Edges.{AreSigned, signed_clamp, q0_adjustment, p0_adjustment, common, step, simple, q1_adjustment, inner, part, outer};
 
 /// Samples less 128, by their distance from the edge: p before it, q after it.
 #[derive(Clone, Copy, Debug, PartialEq, Eq)]
@@ -19,52 +19,52 @@ pub struct Across {
 }
 
 #[inline(always)]
-fn s(x: i16) -> i16
-    ensures value { result ≡ s x }
+fn signed_clamp(x: i16) -> i16
+    ensures value { result ≡ signed_clamp x }
     ensures small { Within 128 result }
 {
     let low = if x < -128 { -128 } else { x };
     if low < 127 { low } else { 127 }
 }
 
-#[tactic(auto, unfolding(crate::specs::Edges::lost))]
+#[tactic(auto, unfolding(crate::specs::Edges::q0_adjustment))]
 #[inline(always)]
-fn lost(x: i16) -> i16
+fn q0_adjustment(x: i16) -> i16
     requires { Within 128 x }
-    ensures value { result ≡ lost x }
+    ensures value { result ≡ q0_adjustment x }
     ensures small { Within 16 result }
 {
-    s(x + 4) >> 3
+    signed_clamp(x + 4) >> 3
 }
 
-#[tactic(auto, unfolding(crate::specs::Edges::gained))]
+#[tactic(auto, unfolding(crate::specs::Edges::p0_adjustment))]
 #[inline(always)]
-fn gained(x: i16) -> i16
+fn p0_adjustment(x: i16) -> i16
     requires { Within 128 x }
-    ensures value { result ≡ gained x }
+    ensures value { result ≡ p0_adjustment x }
     ensures small { Within 16 result }
 {
-    s(x + 3) >> 3
+    signed_clamp(x + 3) >> 3
 }
 
 #[inline(always)]
 fn moved(x: i16, by: i16) -> i16
     requires x { Within 128 x }
     requires by { Within 128 by }
-    ensures value { result ≡ s (x +ℤ by) }
+    ensures value { result ≡ signed_clamp (x +ℤ by) }
     ensures small { Within 128 result }
 {
-    s(x + by)
+    signed_clamp(x + by)
 }
 
 #[inline(always)]
 fn moved_back(x: i16, by: i16) -> i16
     requires x { Within 128 x }
     requires by { Within 128 by }
-    ensures value { result ≡ s (x -ℤ by) }
+    ensures value { result ≡ signed_clamp (x -ℤ by) }
     ensures small { Within 128 result }
 {
-    s(x - by)
+    signed_clamp(x - by)
 }
 
 #[inline(always)]
@@ -72,20 +72,20 @@ fn step(outer: i16, p0: i16, q0: i16) -> i16
     requires outer { Within 128 outer }
     requires p0 { Within 128 p0 }
     requires q0 { Within 128 q0 }
-    ensures value { result ≡ s (outer +ℤ pos 3 *ℤ (q0 -ℤ p0)) }
+    ensures value { result ≡ signed_clamp (outer +ℤ pos 3 *ℤ (q0 -ℤ p0)) }
     ensures small { Within 128 result }
 {
-    s(outer + 3 * (q0 - p0))
+    signed_clamp(outer + 3 * (q0 - p0))
 }
 
-#[tactic(auto, unfolding(crate::specs::Edges::half_lost))]
+#[tactic(auto, unfolding(crate::specs::Edges::q1_adjustment))]
 #[inline(always)]
-fn half_lost(x: i16) -> i16
+fn q1_adjustment(x: i16) -> i16
     requires { Within 128 x }
-    ensures value { result ≡ half_lost x }
+    ensures value { result ≡ q1_adjustment x }
     ensures small { Within 16 result }
 {
-    (lost(x) + 1) >> 1
+    (q0_adjustment(x) + 1) >> 1
 }
 
 #[inline(always)]
@@ -104,7 +104,7 @@ fn part_27(w: i16) -> i16
     ensures value { result ≡ part 27 w }
     ensures small { Within 128 result }
 {
-    s(rounded_7(27 * w))
+    signed_clamp(rounded_7(27 * w))
 }
 
 #[tactic(auto, unfolding(crate::specs::Edges::part))]
@@ -114,7 +114,7 @@ fn part_18(w: i16) -> i16
     ensures value { result ≡ part 18 w }
     ensures small { Within 128 result }
 {
-    s(rounded_7(18 * w))
+    signed_clamp(rounded_7(18 * w))
 }
 
 #[tactic(auto, unfolding(crate::specs::Edges::part))]
@@ -124,7 +124,7 @@ fn part_9(w: i16) -> i16
     ensures value { result ≡ part 9 w }
     ensures small { Within 128 result }
 {
-    s(rounded_7(9 * w))
+    signed_clamp(rounded_7(9 * w))
 }
 
 // The two nearest samples moved.
@@ -135,8 +135,8 @@ fn common(x: i16, a: Across) -> Across
     ensures value { result ≡ common x a }
 {
     let mut a = a;
-    a.q0 = moved_back(a.q0, lost(x));
-    a.p0 = moved(a.p0, gained(x));
+    a.q0 = moved_back(a.q0, q0_adjustment(x));
+    a.p0 = moved(a.p0, p0_adjustment(x));
     a
 }
 
@@ -164,14 +164,14 @@ fn choose(which: bool, x: i16, y: i16) -> i16
 /// The filter within a macroblock, where it moves anything; without high variance it also moves the next two samples by
 /// half as much. It has no branches, so that the compiler filters many places by one instruction.
 #[inline(always)]
-pub fn inner_where(moves: bool, steep: bool, a: Across) -> Across
+pub fn inner_where(moves: bool, high_variance: bool, a: Across) -> Across
     requires signed { AreSigned a }
-    ensures value { result ≡ (if moves then inner steep a else a) }
+    ensures value { result ≡ (if moves then inner high_variance a else a) }
 {
-    let across = choose(steep, moved_back(a.p1, a.q1), 0);
+    let across = choose(high_variance, moved_back(a.p1, a.q1), 0);
     let w = choose(moves, step(across, a.p0, a.q0), 0);
-    let half = choose(steep, 0, half_lost(w));
-    let (up, down) = (gained(w), lost(w));
+    let half = choose(high_variance, 0, q1_adjustment(w));
+    let (up, down) = (p0_adjustment(w), q0_adjustment(w));
     Across {
         p3: a.p3,
         p2: a.p2,
@@ -186,16 +186,16 @@ pub fn inner_where(moves: bool, steep: bool, a: Across) -> Across
 
 /// The filter between macroblocks, where it moves anything; without high variance it moves three samples on each side.
 #[inline(always)]
-pub fn outer_where(moves: bool, steep: bool, a: Across) -> Across
+pub fn outer_where(moves: bool, high_variance: bool, a: Across) -> Across
     requires signed { AreSigned a }
-    ensures value { result ≡ (if moves then outer steep a else a) }
+    ensures value { result ≡ (if moves then outer high_variance a else a) }
 {
     let w = choose(moves, step(moved_back(a.p1, a.q1), a.p0, a.q0), 0);
     let near = part_27(w);
-    let up = choose(steep, gained(w), near);
-    let down = choose(steep, lost(w), near);
-    let middle = choose(steep, 0, part_18(w));
-    let far = choose(steep, 0, part_9(w));
+    let up = choose(high_variance, p0_adjustment(w), near);
+    let down = choose(high_variance, q0_adjustment(w), near);
+    let middle = choose(high_variance, 0, part_18(w));
+    let far = choose(high_variance, 0, part_9(w));
     Across {
         p3: a.p3,
         p2: moved(a.p2, far),

@@ -1,7 +1,7 @@
 //! The edges of a macroblock in one plane (RFC 6386, section 15).
 
 ghost use Rattle.std.specs.Prelude.{◌≡◌, ◌+◌, ◌-◌, ◌*◌, ◌/◌, ◌≤◌, ◌<◌, length, nat_lt, if◌then◌else◌};
-ghost use Rattle.sal_filter.specs.Blocks.{Fits, upright, level, fourths, uprights, levels, square_filtered};
+ghost use Rattle.sal_filter.specs.Blocks.{Fits, vertical_edge, horizontal_edge, fourths, vertical_edges, horizontal_edges, square_filtered};
 
 use crate::edge::Edge;
 use crate::lanes::filter_edge;
@@ -20,22 +20,22 @@ pub struct Square {
 }
 
 // Its vertical edge this far from its left side.
-fn filter_upright(samples: &mut [u8], square: &Square, edge: &Edge, offset: usize)
+fn filter_vertical(samples: &mut [u8], square: &Square, edge: &Edge, offset: usize)
     requires fits { Fits square.now samples.old }
     requires offset { offset + 4 ≤ square.now.side }
     requires before { 4 ≤ square.now.x + offset }
-    ensures { samples.new ≡ upright edge.now square.now offset samples.old }
+    ensures { samples.new ≡ vertical_edge edge.now square.now offset samples.old }
 {
     let at = square.y * square.width + square.x + offset;
     filter_edge(edge, samples, at, 1, square.width, square.side / 8);
 }
 
 // Its horizontal edge this far down.
-fn filter_level(samples: &mut [u8], square: &Square, edge: &Edge, offset: usize)
+fn filter_horizontal(samples: &mut [u8], square: &Square, edge: &Edge, offset: usize)
     requires fits { Fits square.now samples.old }
     requires offset { offset + 4 ≤ square.now.side }
     requires before { 4 ≤ square.now.y + offset }
-    ensures { samples.new ≡ level edge.now square.now offset samples.old }
+    ensures { samples.new ≡ horizontal_edge edge.now square.now offset samples.old }
 {
     let at = (square.y + offset) * square.width + square.x;
     filter_edge(edge, samples, at, square.width, 1, square.side / 8);
@@ -43,57 +43,57 @@ fn filter_level(samples: &mut [u8], square: &Square, edge: &Edge, offset: usize)
 
 fn filter_left(samples: &mut [u8], square: &Square, edge: &Edge)
     requires { Fits square.now samples.old }
-    ensures { samples.new ≡ (if nat_lt 0 square.now.x then upright edge.now square.now 0 samples.old else samples.old) }
+    ensures { samples.new ≡ (if nat_lt 0 square.now.x then vertical_edge edge.now square.now 0 samples.old else samples.old) }
 {
     if square.x > 0 {
-        filter_upright(samples, square, edge, 0);
+        filter_vertical(samples, square, edge, 0);
     }
 }
 
 fn filter_top(samples: &mut [u8], square: &Square, edge: &Edge)
     requires { Fits square.now samples.old }
-    ensures { samples.new ≡ (if nat_lt 0 square.now.y then level edge.now square.now 0 samples.old else samples.old) }
+    ensures { samples.new ≡ (if nat_lt 0 square.now.y then horizontal_edge edge.now square.now 0 samples.old else samples.old) }
 {
     if square.y > 0 {
-        filter_level(samples, square, edge, 0);
+        filter_horizontal(samples, square, edge, 0);
     }
 }
 
-fn filter_inner_uprights(samples: &mut [u8], square: &Square, edge: &Edge)
+fn filter_inner_verticals(samples: &mut [u8], square: &Square, edge: &Edge)
     requires { Fits square.now samples.old }
-    ensures { samples.new ≡ fourths (upright edge.now square.now) (square.now.side / 4 - 1) samples.old }
+    ensures { samples.new ≡ fourths (vertical_edge edge.now square.now) (square.now.side / 4 - 1) samples.old }
 {
     for k in 0..square.side / 4 - 1 {
-        filter_upright(samples, square, edge, 4 * (k + 1));
+        filter_vertical(samples, square, edge, 4 * (k + 1));
     }
 }
 
-fn filter_inner_levels(samples: &mut [u8], square: &Square, edge: &Edge)
+fn filter_inner_horizontals(samples: &mut [u8], square: &Square, edge: &Edge)
     requires { Fits square.now samples.old }
-    ensures { samples.new ≡ fourths (level edge.now square.now) (square.now.side / 4 - 1) samples.old }
+    ensures { samples.new ≡ fourths (horizontal_edge edge.now square.now) (square.now.side / 4 - 1) samples.old }
 {
     for k in 0..square.side / 4 - 1 {
-        filter_level(samples, square, edge, 4 * (k + 1));
+        filter_horizontal(samples, square, edge, 4 * (k + 1));
     }
 }
 
-fn filter_uprights(samples: &mut [u8], square: &Square, outer: &Edge, inner: &Edge, within: bool)
+fn filter_verticals(samples: &mut [u8], square: &Square, outer: &Edge, inner: &Edge, within: bool)
     requires { Fits square.now samples.old }
-    ensures { samples.new ≡ uprights outer.now inner.now within square.now samples.old }
+    ensures { samples.new ≡ vertical_edges outer.now inner.now within square.now samples.old }
 {
     filter_left(samples, square, outer);
     if within {
-        filter_inner_uprights(samples, square, inner);
+        filter_inner_verticals(samples, square, inner);
     }
 }
 
-fn filter_levels(samples: &mut [u8], square: &Square, outer: &Edge, inner: &Edge, within: bool)
+fn filter_horizontals(samples: &mut [u8], square: &Square, outer: &Edge, inner: &Edge, within: bool)
     requires { Fits square.now samples.old }
-    ensures { samples.new ≡ levels outer.now inner.now within square.now samples.old }
+    ensures { samples.new ≡ horizontal_edges outer.now inner.now within square.now samples.old }
 {
     filter_top(samples, square, outer);
     if within {
-        filter_inner_levels(samples, square, inner);
+        filter_inner_horizontals(samples, square, inner);
     }
 }
 
@@ -103,6 +103,6 @@ pub fn filter_square(samples: &mut [u8], square: &Square, outer: &Edge, inner: &
     requires { Fits square.now samples.old }
     ensures { samples.new ≡ square_filtered outer.now inner.now within square.now samples.old }
 {
-    filter_uprights(samples, square, outer, inner, within);
-    filter_levels(samples, square, outer, inner, within);
+    filter_verticals(samples, square, outer, inner, within);
+    filter_horizontals(samples, square, outer, inner, within);
 }

@@ -1,7 +1,7 @@
 //! Edges of blocks, place by place (RFC 6386, sections 15.2 and 15.3).
 
 ghost use Rattle.std.specs.Prelude.{◌≡◌, ℕ, ◌+◌, ◌*◌, ◌<◌, ◌≤◌, ◌&&◌, ◌-ℤ◌, pos, length};
-ghost use Rattle.sal_filter.specs.Edges.{AreSigned, IsSigned, is_near, is_even, is_smooth, is_steep};
+ghost use Rattle.sal_filter.specs.Edges.{AreSigned, IsSigned, is_near, is_even, is_smooth, has_high_variance};
 ghost use Rattle.sal_filter.specs.Filtered.{plus_128, across, across_put, place_put, edge_filtered, edge_of};
 ghost use Rattle.sal_filter.specs.Lanes.{edge_place};
 
@@ -84,9 +84,9 @@ fn is_smooth(limit: u16, a: &Across) -> bool
 }
 
 #[inline(always)]
-fn is_steep(threshold: u16, a: &Across) -> bool
+fn has_high_variance(threshold: u16, a: &Across) -> bool
     requires { AreSigned a.now }
-    ensures { result ≡ is_steep threshold a.now }
+    ensures { result ≡ has_high_variance threshold a.now }
 {
     (a.p1.abs_diff(a.p0) > threshold) | (a.q1.abs_diff(a.q0) > threshold)
 }
@@ -174,7 +174,11 @@ fn inner_moved(edge: &Edge, a: Across) -> Across
     ensures value { result ≡ edge_place edge.now a }
     ensures signed { AreSigned result }
 {
-    inner_where(is_filtered(edge, &a), is_steep(edge.threshold, &a), a)
+    inner_where(
+        is_filtered(edge, &a),
+        has_high_variance(edge.threshold, &a),
+        a,
+    )
 }
 
 // One place between macroblocks.
@@ -185,87 +189,44 @@ fn outer_moved(edge: &Edge, a: Across) -> Across
     ensures value { result ≡ edge_place edge.now a }
     ensures signed { AreSigned result }
 {
-    outer_where(is_filtered(edge, &a), is_steep(edge.threshold, &a), a)
+    outer_where(
+        is_filtered(edge, &a),
+        has_high_variance(edge.threshold, &a),
+        a,
+    )
 }
 
+// One place by the filter of a sort.
 #[inline(always)]
-fn simple_place(edge: &Edge, samples: &mut [u8], at: usize, step: usize)
-    requires sort { edge.now.sort ≡ Sort.Simple }
-    requires before { 4 * step ≤ at }
-    requires after { at + 3 * step < length samples.old }
-    ensures { samples.new ≡ place_put edge.now at step samples.old }
+fn place_moved(sort: Sort, edge: &Edge, a: Across) -> Across
+    requires sort { edge.now.sort ≡ sort }
+    requires signed { AreSigned a }
+    ensures value { result ≡ edge_place edge.now a }
+    ensures signed { AreSigned result }
 {
-    let moved = simple_moved(edge, around(samples, at, step));
-    put(samples, at, step, &moved);
-}
-
-#[inline(always)]
-fn inner_place(edge: &Edge, samples: &mut [u8], at: usize, step: usize)
-    requires sort { edge.now.sort ≡ Sort.Inner }
-    requires before { 4 * step ≤ at }
-    requires after { at + 3 * step < length samples.old }
-    ensures { samples.new ≡ place_put edge.now at step samples.old }
-{
-    let moved = inner_moved(edge, around(samples, at, step));
-    put(samples, at, step, &moved);
-}
-
-#[inline(always)]
-fn outer_place(edge: &Edge, samples: &mut [u8], at: usize, step: usize)
-    requires sort { edge.now.sort ≡ Sort.Outer }
-    requires before { 4 * step ≤ at }
-    requires after { at + 3 * step < length samples.old }
-    ensures { samples.new ≡ place_put edge.now at step samples.old }
-{
-    let moved = outer_moved(edge, around(samples, at, step));
-    put(samples, at, step, &moved);
-}
-
-/// Filters `count` places of an edge from `at` on, `along` apart; the samples across it are `step` apart.
-#[inline(always)]
-pub fn simple_edge(
-    edge: &Edge,
-    samples: &mut [u8],
-    at: usize,
-    step: usize,
-    along: usize,
-    count: usize,
-)
-    requires sort { edge.now.sort ≡ Sort.Simple }
-    requires before { 4 * step ≤ at }
-    requires after { (n : ℕ) → n < count → at + n * along + 3 * step < length samples.old }
-    ensures { samples.new ≡ edge_filtered edge.now at step along count samples.old }
-{
-    let limits = *edge;
-    for n in 0..count {
-        simple_place(&limits, samples, at + n * along, step);
+    match sort {
+        Sort::Simple => simple_moved(edge, a),
+        Sort::Inner => inner_moved(edge, a),
+        Sort::Outer => outer_moved(edge, a),
     }
 }
 
-/// Filters `count` places of an edge from `at` on, `along` apart; the samples across it are `step` apart.
 #[inline(always)]
-pub fn inner_edge(
-    edge: &Edge,
-    samples: &mut [u8],
-    at: usize,
-    step: usize,
-    along: usize,
-    count: usize,
-)
-    requires sort { edge.now.sort ≡ Sort.Inner }
+fn filter_place(sort: Sort, edge: &Edge, samples: &mut [u8], at: usize, step: usize)
+    requires sort { edge.now.sort ≡ sort }
     requires before { 4 * step ≤ at }
-    requires after { (n : ℕ) → n < count → at + n * along + 3 * step < length samples.old }
-    ensures { samples.new ≡ edge_filtered edge.now at step along count samples.old }
+    requires after { at + 3 * step < length samples.old }
+    ensures { samples.new ≡ place_put edge.now at step samples.old }
 {
-    let limits = *edge;
-    for n in 0..count {
-        inner_place(&limits, samples, at + n * along, step);
-    }
+    let moved = place_moved(sort, edge, around(samples, at, step));
+    put(samples, at, step, &moved);
 }
 
-/// Filters `count` places of an edge from `at` on, `along` apart; the samples across it are `step` apart.
+/// Filters `count` places of an edge from `at` on, `along` apart; the samples across it are `step` apart. The edge's sort is passed
+/// beside it, so that where the caller names it the loop has no branch left.
 #[inline(always)]
-pub fn outer_edge(
+pub fn filter_places(
+    sort: Sort,
     edge: &Edge,
     samples: &mut [u8],
     at: usize,
@@ -273,13 +234,13 @@ pub fn outer_edge(
     along: usize,
     count: usize,
 )
-    requires sort { edge.now.sort ≡ Sort.Outer }
+    requires sort { edge.now.sort ≡ sort }
     requires before { 4 * step ≤ at }
     requires after { (n : ℕ) → n < count → at + n * along + 3 * step < length samples.old }
     ensures { samples.new ≡ edge_filtered edge.now at step along count samples.old }
 {
     let limits = *edge;
     for n in 0..count {
-        outer_place(&limits, samples, at + n * along, step);
+        filter_place(sort, &limits, samples, at + n * along, step);
     }
 }

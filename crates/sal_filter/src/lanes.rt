@@ -5,7 +5,7 @@ ghost use Rattle.std.specs.Prelude.{◌≡◌, ℕ, ◌+◌, ◌-◌, ◌*◌, �
 ghost use Rattle.sal_filter.specs.Filtered.{edge_filtered};
 ghost use Rattle.sal_filter.specs.Lanes.{row_put, rows_put, lane};
 
-use crate::edge::{Edge, Sort, inner_edge, outer_edge, simple_edge};
+use crate::edge::{Edge, Sort, filter_places};
 
 // Row `row` of the lanes out of samples that are `along` apart.
 #[inline(always)]
@@ -62,9 +62,9 @@ fn filter_lanes(edge: &Edge, lanes: &mut [u8])
     ensures { lanes.new ≡ edge_filtered edge.now 32 8 1 8 lanes.old }
 {
     match edge.sort {
-        Sort::Simple => simple_edge(edge, lanes, 32, 8, 1, 8),
-        Sort::Inner => inner_edge(edge, lanes, 32, 8, 1, 8),
-        Sort::Outer => outer_edge(edge, lanes, 32, 8, 1, 8),
+        Sort::Simple => filter_places(Sort::Simple, edge, lanes, 32, 8, 1, 8),
+        Sort::Inner => filter_places(Sort::Inner, edge, lanes, 32, 8, 1, 8),
+        Sort::Outer => filter_places(Sort::Outer, edge, lanes, 32, 8, 1, 8),
     }
 }
 

@@ -10,9 +10,9 @@ use Rattle.sal_header.specs.declared.header.Header.{Header}
 use Rattle.sal_header.specs.Headers.{zeros}
 use Rattle.sal_macroblock.specs.declared.mode.MbMode.{MbMode}
 use Rattle.sal_macroblock.specs.Macroblocks.{vector, outside}
-use Rattle.sal_transform.specs.Steps.{steps_of}
+use Rattle.sal_transform.specs.Factors.{factors_of}
 use Rattle.sal_state.specs.States.{References}
-use Rattle.sal_frame.specs.Records.{Macroblock, Record, quantiser_of, segment_steps, info_of}
+use Rattle.sal_frame.specs.Records.{Macroblock, Record, quantiser_of, segment_factors, info_of}
 use Rattle.sal_frame.specs.Residues.{residue_at}
 use Rattle.sal_frame.specs.Built.{sum_cut, luma_vector, chroma_vector}
 use Rattle.sal_frame.specs.After.{references_after, map_after}
@@ -76,10 +76,10 @@ index_on_top : of_four (record plain { segmentation = true }) ≡ 113 ∷ 107 �
 unfolding of_four plain
 index_on_top = refl
 
--- index 110: the first step of Y2 doubled, its others by 155 / 100, the first of chroma cut off at 132
-some_steps : segment_steps plain 0 ≡ record { y_dc = 116; y_ac = 205; y2_dc = 232; y2_ac = 317; uv_dc = 132; uv_ac = 152 }
-unfolding plain segment_steps steps_of dc_steps_of ac_steps_of
-some_steps = refl
+-- index 110: the first factor of Y2 doubled, its others by 155 / 100, the first of chroma cut off at 132
+some_factors : segment_factors plain 0 ≡ record { y_dc = 116; y_ac = 205; y2_dc = 232; y2_ac = 317; uv_dc = 132; uv_ac = 152 }
+unfolding plain segment_factors factors_of dc_steps_of ac_steps_of
+some_factors = refl
 
 -- cut off at either side
 sums : (sum_cut 250 (pos 5) ∷ sum_cut 250 (pos 6) ∷ sum_cut 3 (negsuc 2) ∷ sum_cut 3 (negsuc 3) ∷ []) ≡ 255 ∷ 255 ∷ 0 ∷ 0 ∷ []
@@ -114,9 +114,9 @@ unfolding in_parts outside
 chroma_alone = refl
 
 inner_of : YMode → Bool → Bool → Bool
-inner_of y skip some = (info_of (record { mode = record outside { y = y; skip = skip }; levels = []; some = some })).inner
+inner_of y skip has_coefficients = (info_of (record { mode = record outside { y = y; skip = skip }; coefficients = []; has_coefficients = has_coefficients })).inner
 
--- skipped, no levels, some levels; then modes of subblocks and of parts without levels
+-- skipped, no coefficients, some coefficients; then modes of subblocks and of parts without coefficients
 inner_edges : (inner_of DC true false ∷ inner_of DC false false ∷ inner_of NEW false true ∷ inner_of B true false ∷ inner_of SPLIT false false ∷ []) ≡ false ∷ false ∷ true ∷ true ∷ true ∷ []
 unfolding inner_of info_of outside
 inner_edges = refl
@@ -159,7 +159,7 @@ unfolding frame plain before references flat
 all_replaced = refl
 
 in_segment : ℕ → Macroblock
-in_segment k = record { mode = record outside { segment = k }; levels = []; some = false }
+in_segment k = record { mode = record outside { segment = k }; coefficients = []; has_coefficients = false }
 
 three : Header → Record
 three h = record (frame h) { blocks = in_segment 3 ∷ in_segment 1 ∷ in_segment 2 ∷ [] }

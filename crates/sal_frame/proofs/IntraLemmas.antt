@@ -11,14 +11,14 @@ use Rattle.sal_intra.specs.declared.edge.ChromaEdge.{ChromaEdge}
 use Rattle.sal_intra.specs.Edges.{luma_edge_of, chroma_edge_of}
 use Rattle.sal_intra.specs.Intra.{whole_sample, luma_edge, chroma_edge}
 use Rattle.sal_inter.specs.Inter.{inter_sample}
-use Rattle.sal_transform.specs.Steps.{Steps}
+use Rattle.sal_transform.specs.Factors.{Factors}
 use Rattle.sal_frame.specs.Records.{Macroblock}
 use Rattle.sal_frame.specs.Residues.{luma_residues, chroma_residues, residue_at}
 use Rattle.sal_frame.specs.Built.{added, subs_built, luma_vector, chroma_vector, luma_built, chroma_built, put_square}
 use Rattle.sal_frame.specs.Intra.{intra_luma, intra_chroma}
 
 -- by mode
-pub in_b : (s : Steps) (b : Macroblock) (e : LumaEdge) (xs : List ℕ) → b.mode.y ≡ B → xs ≡ subs_built e b.mode (luma_residues s b) 16 → xs ≡ intra_luma s b e
+pub in_b : (s : Factors) (b : Macroblock) (e : LumaEdge) (xs : List ℕ) → b.mode.y ≡ B → xs ≡ subs_built e b.mode (luma_residues s b) 16 → xs ≡ intra_luma s b e
 unfolding intra_luma
 in_b s b e xs is h =
     h ∙ sym (ap (λ (t : Bool). if t then subs_built e b.mode (luma_residues s b) 16 else added 16 256 (whole_sample b.mode.y (luma_edge e)) (residue_at 4 (luma_residues s b))) (ap is_b is))
@@ -27,12 +27,12 @@ not_b : (y : YMode) → (y ≡ B → ⊥) → is_b y ≡ false
 not_b B h = absurd (h refl)
 not_b y h = refl
 
-pub in_whole : (s : Steps) (b : Macroblock) (e : LumaEdge) (xs : List ℕ) → (b.mode.y ≡ B → ⊥) → xs ≡ added 16 256 (whole_sample b.mode.y (luma_edge e)) (residue_at 4 (luma_residues s b)) → xs ≡ intra_luma s b e
+pub in_whole : (s : Factors) (b : Macroblock) (e : LumaEdge) (xs : List ℕ) → (b.mode.y ≡ B → ⊥) → xs ≡ added 16 256 (whole_sample b.mode.y (luma_edge e)) (residue_at 4 (luma_residues s b)) → xs ≡ intra_luma s b e
 unfolding intra_luma
 in_whole s b e xs is h =
     h ∙ sym (ap (λ (t : Bool). if t then subs_built e b.mode (luma_residues s b) 16 else added 16 256 (whole_sample b.mode.y (luma_edge e)) (residue_at 4 (luma_residues s b))) (not_b b.mode.y is))
 
-luma_same : (from : Plane) (s : Steps) (b : Macroblock) (p : Plane) (x y : ℕ) → b.mode.reference ≡ Intra → intra_luma s b (luma_edge_of p.width p.samples x y) ≡ luma_built from s b p x y
+luma_same : (from : Plane) (s : Factors) (b : Macroblock) (p : Plane) (x y : ℕ) → b.mode.reference ≡ Intra → intra_luma s b (luma_edge_of p.width p.samples x y) ≡ luma_built from s b p x y
 unfolding intra_luma luma_built
 luma_same from s b p x y intra =
     ap (λ (t : Bool).
@@ -42,12 +42,12 @@ luma_same from s b p x y intra =
     (residue_at 4 (luma_residues s b)))
     (sym (ap is_intra intra))
 
-pub luma_placed : (from : Plane) (s : Steps) (b : Macroblock) (p p' : Plane) (x y : ℕ) (e : LumaEdge) (xs : List ℕ) → b.mode.reference ≡ Intra → e ≡ luma_edge_of p.width p.samples x y
+pub luma_placed : (from : Plane) (s : Factors) (b : Macroblock) (p p' : Plane) (x y : ℕ) (e : LumaEdge) (xs : List ℕ) → b.mode.reference ≡ Intra → e ≡ luma_edge_of p.width p.samples x y
     → xs ≡ intra_luma s b e → p' ≡ put_square 16 x y xs p → p' ≡ put_square 16 x y (luma_built from s b p x y) p
 luma_placed from s b p p' x y e xs intra around built h =
     h ∙ ap (λ (zs : List ℕ). put_square 16 x y zs p) (built ∙ (ap (λ (f : LumaEdge). intra_luma s b f) around ∙ luma_same from s b p x y intra))
 
-chroma_same : (from : Plane) (s : Steps) (b : Macroblock) (first : ℕ) (p : Plane) (x y : ℕ) → b.mode.reference ≡ Intra → intra_chroma s b first (chroma_edge_of p.width p.samples x y) ≡ chroma_built from s b first p x y
+chroma_same : (from : Plane) (s : Factors) (b : Macroblock) (first : ℕ) (p : Plane) (x y : ℕ) → b.mode.reference ≡ Intra → intra_chroma s b first (chroma_edge_of p.width p.samples x y) ≡ chroma_built from s b first p x y
 unfolding intra_chroma chroma_built
 chroma_same from s b first p x y intra =
     ap (λ (t : Bool).
@@ -56,7 +56,7 @@ chroma_same from s b first p x y intra =
     (residue_at 2 (chroma_residues s b first)))
     (sym (ap is_intra intra))
 
-pub chroma_placed : (from : Plane) (s : Steps) (b : Macroblock) (first : ℕ) (p p' : Plane) (x y : ℕ) (e : ChromaEdge) (xs : List ℕ) → b.mode.reference ≡ Intra → e ≡ chroma_edge_of p.width p.samples x y
+pub chroma_placed : (from : Plane) (s : Factors) (b : Macroblock) (first : ℕ) (p p' : Plane) (x y : ℕ) (e : ChromaEdge) (xs : List ℕ) → b.mode.reference ≡ Intra → e ≡ chroma_edge_of p.width p.samples x y
     → xs ≡ intra_chroma s b first e → p' ≡ put_square 8 x y xs p → p' ≡ put_square 8 x y (chroma_built from s b first p x y) p
 chroma_placed from s b first p p' x y e xs intra around built h =
     h ∙ ap (λ (zs : List ℕ). put_square 8 x y zs p) (built ∙ (ap (λ (f : ChromaEdge). intra_chroma s b first f) around ∙ chroma_same from s b first p x y intra))

@@ -8,30 +8,30 @@ use Rattle.sal_base.specs.Picture.{IsPlane}
 use Rattle.sal_base.specs.Samples.{listed_from}
 use Rattle.sal_intra.specs.declared.edge.LumaEdge.{LumaEdge}
 use Rattle.sal_macroblock.specs.declared.mode.MbMode.{MbMode}
-use Rattle.sal_transform.specs.Steps.{Steps}
+use Rattle.sal_transform.specs.Factors.{Factors}
 use Rattle.sal_state.specs.States.{References, HasBlocks}
-use Rattle.sal_frame.specs.Records.{Macroblock, Record, columns_of, segment_steps}
+use Rattle.sal_frame.specs.Records.{Macroblock, Record, columns_of, segment_factors}
 use Rattle.sal_frame.specs.Built.{put_square, subs_built, luma_built, chroma_built, one_built, all_built, blanks}
 use Rattle.sal_frame.proofs.SquarePlaces.{Lies, rows_length}
 
 -- one macroblock more after those from the k-th on
 more_from : (r : References) (f : Record) (k : ℕ) (bs : List Macroblock) (b : Macroblock) (p : Planes)
-    → all_built r f k (bs ++ b ∷ []) p ≡ one_built r (segment_steps f.header b.mode.segment) b ((k + length bs) % columns_of f) ((k + length bs) / columns_of f) (all_built r f k bs p)
+    → all_built r f k (bs ++ b ∷ []) p ≡ one_built r (segment_factors f.header b.mode.segment) b ((k + length bs) % columns_of f) ((k + length bs) / columns_of f) (all_built r f k bs p)
 unfolding all_built
 more_from r f k [] b p =
     let e : k ≡ k + 0 = omega arith in
-    ap (λ (n : ℕ). one_built r (segment_steps f.header b.mode.segment) b (n % columns_of f) (n / columns_of f) p) e
+    ap (λ (n : ℕ). one_built r (segment_factors f.header b.mode.segment) b (n % columns_of f) (n / columns_of f) p) e
 more_from r f k (a ∷ bs) b p =
     let e : (k + 1) + length bs ≡ k + suc (length bs) = omega arith in
-    let q : Planes = one_built r (segment_steps f.header a.mode.segment) a (k % columns_of f) (k / columns_of f) p in
+    let q : Planes = one_built r (segment_factors f.header a.mode.segment) a (k % columns_of f) (k / columns_of f) p in
     more_from r f (k + 1) bs b q
-    ∙ ap (λ (n : ℕ). one_built r (segment_steps f.header b.mode.segment) b (n % columns_of f) (n / columns_of f) (all_built r f (k + 1) bs q)) e
+    ∙ ap (λ (n : ℕ). one_built r (segment_factors f.header b.mode.segment) b (n % columns_of f) (n / columns_of f) (all_built r f (k + 1) bs q)) e
 
 pub one_more : (r : References) (f : Record) (bs : List Macroblock) (b : Macroblock) (p : Planes)
-    → all_built r f 0 (bs ++ b ∷ []) p ≡ one_built r (segment_steps f.header b.mode.segment) b (length bs % columns_of f) (length bs / columns_of f) (all_built r f 0 bs p)
+    → all_built r f 0 (bs ++ b ∷ []) p ≡ one_built r (segment_factors f.header b.mode.segment) b (length bs % columns_of f) (length bs / columns_of f) (all_built r f 0 bs p)
 one_more r f bs b p =
     let e : 0 + length bs ≡ length bs = omega arith in
-    more_from r f 0 bs b p ∙ ap (λ (n : ℕ). one_built r (segment_steps f.header b.mode.segment) b (n % columns_of f) (n / columns_of f) (all_built r f 0 bs p)) e
+    more_from r f 0 bs b p ∙ ap (λ (n : ℕ). one_built r (segment_factors f.header b.mode.segment) b (n % columns_of f) (n / columns_of f) (all_built r f 0 bs p)) e
 
 length_listed : {A : Type 0} (k n : ℕ) (f : ℕ → A) → length (listed_from k n f) ≡ n
 unfolding listed_from
@@ -49,11 +49,11 @@ either_long : (t : Bool) (xs ys : List ℕ) → length xs ≡ 256 → length ys 
 either_long true xs ys hx hy = hx
 either_long false xs ys hx hy = hy
 
-luma_length : (from : Plane) (s : Steps) (b : Macroblock) (p : Plane) (x y : ℕ) → length (luma_built from s b p x y) ≡ 256
+luma_length : (from : Plane) (s : Factors) (b : Macroblock) (p : Plane) (x y : ℕ) → length (luma_built from s b p x y) ≡ 256
 unfolding luma_built
 luma_length from s b p x y = either_long _ _ _ (subs_length _ _ _ 16 (omega arith)) (length_listed 0 256 _)
 
-chroma_length : (from : Plane) (s : Steps) (b : Macroblock) (first : ℕ) (p : Plane) (x y : ℕ) → length (chroma_built from s b first p x y) ≡ 64
+chroma_length : (from : Plane) (s : Factors) (b : Macroblock) (first : ℕ) (p : Plane) (x y : ℕ) → length (chroma_built from s b first p x y) ≡ 64
 unfolding chroma_built
 chroma_length from s b first p x y = length_listed 0 64 _
 
@@ -68,7 +68,7 @@ plane_size side x y columns rows block p h long across down =
     record { width = h.width; height = h.height; samples = rows_length p.width x y side block p.samples lies side (omega arith) ∙ h.samples }
 
 -- planes with one macroblock more have as many
-pub one_size : (r : References) (s : Steps) (b : Macroblock) (column row columns rows : ℕ) (p : Planes) → HasBlocks columns rows p → column < columns → row < rows → HasBlocks columns rows (one_built r s b column row p)
+pub one_size : (r : References) (s : Factors) (b : Macroblock) (column row columns rows : ℕ) (p : Planes) → HasBlocks columns rows p → column < columns → row < rows → HasBlocks columns rows (one_built r s b column row p)
 unfolding one_built
 one_size r s b column row columns rows p h across down = record {
   y = plane_size 16 (16 * column) (16 * row) (16 * columns) (16 * rows) _ p.y h.y (luma_length _ _ _ _ _ _) (omega arith) (omega arith);

@@ -6,7 +6,7 @@ use Rattle.sal_intra.specs.declared.edge.SubEdge.{SubEdge}
 use Rattle.sal_intra.specs.Sub.{sub_sample}
 use Rattle.sal_frame.specs.Built.{sum_cut, added}
 use Rattle.sal_frame.specs.Residues.{residue_at}
-use Rattle.sal_frame.proofs.Places.{listed_is}
+use Rattle.sal_macroblock.proofs.Places.{listed_is}
 use Rattle.sal_frame.proofs.Nones.{zeros, none_added_16, none_added_8}
 
 alone_at : (r : List ℤ) (k : ℕ) → k < 16 → get_or r k (pos 0) ≡ residue_at 1 (r ∷ []) (k / 4) (k % 4)

@@ -16,9 +16,9 @@ use Rattle.sal_intra.specs.Intra.{whole_sample, luma_edge, chroma_edge}
 use Rattle.sal_intra.specs.Sub.{sub_sample}
 use Rattle.sal_intra.specs.Edges.{luma_edge_of, chroma_edge_of, sub_edge_of}
 use Rattle.sal_inter.specs.Inter.{inter_sample, mean_vector}
-use Rattle.sal_transform.specs.Steps.{Steps}
+use Rattle.sal_transform.specs.Factors.{Factors}
 use Rattle.sal_state.specs.States.{References}
-use Rattle.sal_frame.specs.Records.{Macroblock, Record, columns_of, segment_steps}
+use Rattle.sal_frame.specs.Records.{Macroblock, Record, columns_of, segment_factors}
 use Rattle.sal_frame.specs.Residues.{luma_residues, chroma_residues, residue_at}
 
 -- a prediction and a residue, cut off at 0 and at 255 (14.5)
@@ -71,7 +71,7 @@ luma_prediction from m p x y =
     else inter_sample from (luma_vector m row column) false (pos (x + column)) (pos (y + row))
 
 -- the luma samples of a macroblock, from the reference's plane and the plane built so far
-unfoldable pub luma_built : Plane → Steps → Macroblock → Plane → ℕ → ℕ → List ℕ
+unfoldable pub luma_built : Plane → Factors → Macroblock → Plane → ℕ → ℕ → List ℕ
 luma_built from s b p x y =
     let residues = luma_residues s b in
     if is_b b.mode.y then subs_built (luma_edge_of p.width p.samples x y) b.mode residues 16
@@ -85,7 +85,7 @@ chroma_prediction from m p x y =
     if is_intra m.reference then whole_sample m.chroma edge row column
     else inter_sample from (chroma_vector m row column) true (pos (x + column)) (pos (y + row))
 
-unfoldable pub chroma_built : Plane → Steps → Macroblock → ℕ → Plane → ℕ → ℕ → List ℕ
+unfoldable pub chroma_built : Plane → Factors → Macroblock → ℕ → Plane → ℕ → ℕ → List ℕ
 chroma_built from s b first p x y =
     let residues = chroma_residues s b first in
     added 8 64 (chroma_prediction from b.mode p x y) (residue_at 2 residues)
@@ -94,7 +94,7 @@ abbrev pub put_square : ℕ → ℕ → ℕ → List ℕ → Plane → Plane
 put_square side x y block p = record p { samples = square_put p.width x y side block p.samples }
 
 -- the planes with one macroblock more, at this column and row
-unfoldable pub one_built : References → Steps → Macroblock → ℕ → ℕ → Planes → Planes
+unfoldable pub one_built : References → Factors → Macroblock → ℕ → ℕ → Planes → Planes
 one_built r s b column row p =
     let from = reference r b.mode.reference in
     record {
@@ -106,7 +106,7 @@ one_built r s b column row p =
 -- the macroblocks from the k-th on, in raster order
 unfoldable pub all_built : References → Record → ℕ → List Macroblock → Planes → Planes
 all_built r f k [] p = p
-all_built r f k (b ∷ bs) p = all_built r f (k + 1) bs (one_built r (segment_steps f.header b.mode.segment) b (k % columns_of f) (k / columns_of f) p)
+all_built r f k (b ∷ bs) p = all_built r f (k + 1) bs (one_built r (segment_factors f.header b.mode.segment) b (k % columns_of f) (k / columns_of f) p)
 
 -- planes of so many macroblocks with nothing built yet
 abbrev pub blanks : ℕ → ℕ → Planes

@@ -9,17 +9,17 @@ use Rattle.sal_macroblock.specs.Macroblocks.{is_b}
 use Rattle.sal_intra.specs.declared.edge.LumaEdge.{LumaEdge}
 use Rattle.sal_intra.specs.declared.edge.ChromaEdge.{ChromaEdge}
 use Rattle.sal_intra.specs.Intra.{whole_sample, luma_edge, chroma_edge}
-use Rattle.sal_transform.specs.Steps.{Steps}
+use Rattle.sal_transform.specs.Factors.{Factors}
 use Rattle.sal_frame.specs.Records.{Macroblock}
 use Rattle.sal_frame.specs.Residues.{luma_residues, chroma_residues, residue_at}
 use Rattle.sal_frame.specs.Built.{added, subs_built}
 
-unfoldable pub intra_luma : Steps → Macroblock → LumaEdge → List ℕ
+unfoldable pub intra_luma : Factors → Macroblock → LumaEdge → List ℕ
 intra_luma s b e =
     if is_b b.mode.y then subs_built e b.mode (luma_residues s b) 16
     else added 16 256 (whole_sample b.mode.y (luma_edge e)) (residue_at 4 (luma_residues s b))
 
-unfoldable pub intra_chroma : Steps → Macroblock → ℕ → ChromaEdge → List ℕ
+unfoldable pub intra_chroma : Factors → Macroblock → ℕ → ChromaEdge → List ℕ
 intra_chroma s b first e = added 8 64 (whole_sample b.mode.chroma (chroma_edge e)) (residue_at 2 (chroma_residues s b first))
 
 -- an intra macroblock: in mode B or in one of the four that predict it as a whole; chroma always as a whole

@@ -3,6 +3,5 @@ pub mod Built
 pub mod Records
 pub mod Residues
 pub mod Refreshing
-pub mod Small
 pub mod Intra
 pub mod Inter

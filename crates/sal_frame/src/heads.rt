@@ -1,11 +1,11 @@
 //! What the loop filter is told of a frame and of its macroblocks (RFC 6386, sections 9.3, 9.4 and 15).
 
-ghost use Rattle.std.specs.Prelude.{◌≡◌, List, ℤ};
-ghost use Rattle.sal_frame.specs.Records.{filter_head, info_of, macroblock};
+ghost use Rattle.std.specs.Prelude.{◌≡◌};
+ghost use Rattle.sal_frame.specs.Records.{filter_head, info_of};
 
+use crate::macroblock::Macroblock;
 use sal_filter::{FilterHead, MbInfo};
 use sal_header::Header;
-use sal_macroblock::MbMode;
 
 /// The loop filter's settings in a frame.
 #[tactic(auto, unfolding(crate::specs::Records::filter_head))]
@@ -30,13 +30,13 @@ pub fn filter_head(header: &Header) -> FilterHead
     }
 }
 
-/// What the loop filter needs of a macroblock, which has some block whose first token isn't the end, or none.
+/// What the loop filter needs of a macroblock.
 #[tactic(auto, unfolding(crate::specs::Records::info_of))]
-pub fn info_of(mode: &MbMode, some: bool) -> MbInfo
-    ensures { (levels : List (List ℤ)) → result ≡ info_of (macroblock mode.now levels some) }
+pub fn info_of(block: &Macroblock<'_>) -> MbInfo
+    ensures { result ≡ info_of block.now }
 {
     MbInfo {
-        mode: *mode,
-        inner: !mode.has_y2() || (!mode.skip && some),
+        mode: *block.mode,
+        inner: !block.mode.has_y2() || (!block.mode.skip && block.has_coefficients),
     }
 }

@@ -2,19 +2,18 @@
 
 ghost use Rattle.std.specs.Prelude.{◌≡◌, ◌≤◌, ◌<◌, ◌+◌, ◌*◌, ◌/◌, ◌%◌, ◌+ℤ◌, ◌≤ℤ◌, ℕ, pos, neg_ℤ, true, false, IsTrue, slice_index};
 ghost use Rattle.sal_base.specs.Samples.{IsBlockOf};
-ghost use Rattle.sal_macroblock.specs.Blocks.{no_levels};
 ghost use Rattle.sal_macroblock.specs.Macroblocks.{vector_at};
 ghost use Rattle.sal_inter.specs.Inter.{HasSamples, inter_sample, quarter, mean_vector};
 ghost use Rattle.sal_frame.specs.Built.{added, luma_vector, chroma_vector, quarter_vector};
-ghost use Rattle.sal_frame.specs.Records.{macroblock};
 ghost use Rattle.sal_frame.specs.Residues.{luma_residues, chroma_residues, residue_at};
 
-use crate::finish::{finish_chroma, finish_luma};
+use crate::macroblock::Macroblock;
+use crate::residues::{finish_chroma, finish_luma};
 use crate::square::put_rows;
-use crate::steps::Steps;
 use sal_base::{Plane, Vector, YMode};
 use sal_inter::predict_block;
-use sal_macroblock::{Levels, MbMode};
+use sal_macroblock::MbMode;
+use sal_transform::Factors;
 
 // Whether all sixteen vectors are the same.
 fn are_one(vectors: &[Vector; 16]) -> bool
@@ -222,43 +221,37 @@ fn chroma_predicted(reference: &Plane, mode: &MbMode, x: usize, y: usize) -> [u8
 /// The luma samples of an inter macroblock at column x, row y.
 pub(crate) fn inter_luma(
     reference: &Plane,
-    mode: &MbMode,
-    levels: &Levels,
-    some: bool,
-    steps: &Steps,
+    block: &Macroblock<'_>,
+    factors: &Factors,
     x: usize,
     y: usize,
 ) -> [u8; 256]
     requires reference { HasSamples reference.now }
-    requires none { some ≡ false → levels.now ≡ no_levels }
     requires x { x < 1048576 }
     requires y { y < 1048576 }
-    ensures { result ≡ added 16 256 (λ row column. inter_sample reference.now (luma_vector mode.now row column) false (pos (x + column)) (pos (y + row))) (residue_at 4 (luma_residues steps.now (macroblock mode.now levels.now some))) }
+    ensures { result ≡ added 16 256 (λ row column. inter_sample reference.now (luma_vector block.now.mode row column) false (pos (x + column)) (pos (y + row))) (residue_at 4 (luma_residues factors.now block.now)) }
 {
-    let mut samples = luma_predicted(reference, &mode.vectors, x, y);
-    finish_luma(&mut samples, mode, levels, some, steps);
+    let mut samples = luma_predicted(reference, &block.mode.vectors, x, y);
+    finish_luma(&mut samples, block, factors);
     samples
 }
 
 /// The samples of an inter macroblock at column x, row y of a chroma plane, whose blocks are those from the first on.
 pub(crate) fn inter_chroma(
     reference: &Plane,
-    mode: &MbMode,
-    levels: &Levels,
-    some: bool,
+    block: &Macroblock<'_>,
     first: usize,
-    steps: &Steps,
+    factors: &Factors,
     x: usize,
     y: usize,
 ) -> [u8; 64]
     requires reference { HasSamples reference.now }
-    requires none { some ≡ false → levels.now ≡ no_levels }
     requires first { first ≤ 20 }
     requires x { x < 1048576 }
     requires y { y < 1048576 }
-    ensures { result ≡ added 8 64 (λ row column. inter_sample reference.now (chroma_vector mode.now row column) true (pos (x + column)) (pos (y + row))) (residue_at 2 (chroma_residues steps.now (macroblock mode.now levels.now some) first)) }
+    ensures { result ≡ added 8 64 (λ row column. inter_sample reference.now (chroma_vector block.now.mode row column) true (pos (x + column)) (pos (y + row))) (residue_at 2 (chroma_residues factors.now block.now first)) }
 {
-    let mut samples = chroma_predicted(reference, mode, x, y);
-    finish_chroma(&mut samples, mode, levels, some, first, steps);
+    let mut samples = chroma_predicted(reference, block.mode, x, y);
+    finish_chroma(&mut samples, block, first, factors);
     samples
 }

@@ -4,27 +4,33 @@
 
 mod adding;
 mod after;
-mod build;
+mod building;
 mod cropping;
-mod edges;
-mod finish;
+mod decoded;
+mod empty;
 mod heads;
 mod inter;
 mod intra;
+mod macroblock;
 mod next;
 mod raster;
-mod residue;
+mod residues;
+mod segment_map;
+mod segments;
 mod square;
-mod steps;
 mod subs;
 
 pub use after::refreshes;
-pub use build::{build_inter, build_intra};
+pub use building::build;
 pub use cropping::crop;
+pub use decoded::finish;
+pub use empty::{blanks, blocks_of};
 pub use heads::{filter_head, info_of};
-pub use next::{next_state, state_from};
+pub use macroblock::Macroblock;
+pub use next::next_state;
 pub use raster::{one_macroblock_more, sizes_stay};
-pub use steps::{Steps, segment_steps};
+pub use segment_map::map_after;
+pub use segments::frame_factors;
 
 #[cfg(test)]
 mod tests;

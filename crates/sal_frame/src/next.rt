@@ -61,31 +61,8 @@ fn next_references(
     }
 }
 
-/// The state that a header, planes of this size, a segment map and probabilities lead to: they are the frame's, its planes after
-/// filtering and the probabilities that are kept of it.
-pub fn state_from(
-    alloc: Global,
-    old: &State,
-    header: &Header,
-    width: u16,
-    height: u16,
-    planes: Planes,
-    map: Bytes,
-    probs: Probs,
-) -> Result<State, Memory>
-    requires first { old.now.references ≡ None → header.now.key ≡ true }
-    requires size { IfSome old.now.references (λ r. header.now.key ≡ false → (width ≡ r.width) × (height ≡ r.height)) }
-    requires sides { AreSides width height }
-    requires blocks { HasBlocks (blocks_of width) (blocks_of height) planes }
-    requires map { length map ≡ blocks_of width * blocks_of height }
-    requires segments { All (λ segment. segment < 4) map }
-    ensures { IfOk result (λ s. s ≡ state_from header.now width height planes map probs old.now.references) }
-{
-    let references = next_references(alloc, old.references(), header, width, height, planes)?;
-    Ok(State::new(kept_from(header, map, probs), references))
-}
-
-/// The state after a frame: its planes after filtering, its segment map, and the probabilities that are kept of it.
+/// The state after a frame: what its header, its planes after filtering, its segment map and the probabilities that are kept of it
+/// lead to.
 pub fn next_state(
     alloc: Global,
     old: &State,
@@ -102,7 +79,9 @@ pub fn next_state(
     requires blocks { HasBlocks (blocks_of width) (blocks_of height) planes }
     requires map { length map ≡ blocks_of width * blocks_of height }
     requires segments { All (λ segment. segment < 4) map }
-    ensures { (f : Record) → f.header ≡ header.now → f.width ≡ width → f.height ≡ height → planes ≡ planes_of old.now.references f → map ≡ map_after f old.now.kept.map → probs ≡ kept header.now.key header.now.refresh_entropy old.now.kept.probs header.now.updates → IfOk result (λ s. s ≡ state_after old.now f) }
+    ensures from { IfOk result (λ s. s ≡ state_from header.now width height planes map probs old.now.references) }
+    ensures after { (f : Record) → f.header ≡ header.now → f.width ≡ width → f.height ≡ height → planes ≡ planes_of old.now.references f → map ≡ map_after f old.now.kept.map → probs ≡ kept header.now.key header.now.refresh_entropy old.now.kept.probs header.now.updates → IfOk result (λ s. s ≡ state_after old.now f) }
 {
-    state_from(alloc, old, header, width, height, planes, map, probs)
+    let references = next_references(alloc, old.references(), header, width, height, planes)?;
+    Ok(State::new(kept_from(header, map, probs), references))
 }

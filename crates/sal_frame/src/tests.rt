@@ -4,17 +4,19 @@
 ghost use Rattle.std.specs.Prelude.{◌≡◌, ◌<◌, ◌≤◌, false, IfOk, All, Some};
 ghost use Rattle.std.specs.Arc.{arc_value};
 ghost use Rattle.sal_base.specs.Picture.{IsPlane};
-ghost use Rattle.sal_macroblock.specs.Blocks.{no_levels};
+ghost use Rattle.sal_macroblock.specs.Blocks.{no_coefficients};
 ghost use Rattle.sal_macroblock.specs.Sizes.{Within};
 ghost use Rattle.sal_state.specs.States.{HasBlocks, References as ReferencesData};
 ghost use Rattle.sal_frame.specs.Inter.{IsInter};
 ghost use Rattle.sal_frame.specs.Intra.{IsIntra};
 
-use crate::{build_inter, build_intra, crop, filter_head, info_of, next_state, segment_steps};
+use crate::building::{build_inter, build_intra};
+use crate::segments::segment_factors;
+use crate::{Macroblock, crop, filter_head, info_of, next_state};
 use sal_base::{Bytes, Memory, Plane, Planes, SubMode, Vector, YMode};
 use sal_filter::FilterHead;
 use sal_header::{Header, Kept};
-use sal_macroblock::{Block, Levels, MbMode, RefKind};
+use sal_macroblock::{Block, Coefficients, MbMode, RefKind};
 use sal_probs::{Probs, Updates};
 use sal_state::{Reference, References, State};
 use std::alloc::Global;
@@ -61,13 +63,13 @@ fn at(plane: &Plane, places: [usize; 3]) -> [Option<u8>; 3] {
     ]
 }
 
-/// A block of one level.
-fn one_level(position: usize, level: i32) -> Block
-    requires { Within 2114 level }
+/// A block of one coefficient.
+fn one_coefficient(position: usize, coefficient: i32) -> Block
+    requires { Within 2114 coefficient }
     ensures { All (Within 2114) result.0 }
 {
     let mut block = Block([0; 16]);
-    block.0[position % 16] = level;
+    block.0[position % 16] = coefficient;
     block
 }
 
@@ -115,18 +117,18 @@ fn header(segmentation: bool, absolute: bool) -> Header {
     }
 }
 
-/// The six steps of a segment.
-fn steps(header: &Header, segment: u8) -> [u16; 6]
+/// The six factors of a segment.
+fn factors(header: &Header, segment: u8) -> [u16; 6]
     requires { segment < 4 }
 {
-    let steps = segment_steps(header, segment);
+    let factors = segment_factors(header, segment);
     [
-        steps.y_dc,
-        steps.y_ac,
-        steps.y2_dc,
-        steps.y2_ac,
-        steps.uv_dc,
-        steps.uv_ac,
+        factors.y_dc,
+        factors.y_ac,
+        factors.y2_dc,
+        factors.y2_ac,
+        factors.uv_dc,
+        factors.uv_ac,
     ]
 }
 
@@ -149,13 +151,13 @@ fn mode(reference: RefKind, y: YMode, chroma: YMode, vectors: [Vector; 16]) -> M
 const ZERO: Vector = Vector { row: 0, column: 0 };
 
 #[test]
-fn steps_of_segments(rt: HostRuntime) {
+fn factors_of_segments(rt: HostRuntime) {
     assert_eq!(rt;
-        steps(&header(false, false), 0),
+        factors(&header(false, false), 0),
         [116, 205, 232, 317, 132, 152]
     );
-    assert_eq!(rt; steps(&header(true, true), 0), [7, 7, 14, 10, 20, 4]);
-    assert_eq!(rt; steps(&header(true, true), 1), [4, 4, 8, 8, 17, 4]);
+    assert_eq!(rt; factors(&header(true, true), 0), [7, 7, 14, 10, 20, 4]);
+    assert_eq!(rt; factors(&header(true, true), 1), [4, 4, 8, 8, 17, 4]);
 }
 
 #[test]
@@ -169,33 +171,40 @@ fn heads_of_the_filter(rt: HostRuntime) {
         deltas: None,
     };
     assert_eq!(rt; filter_head(&header(true, false)), head);
-    assert!(rt; info_of(&MbMode::outside(), true).inner);
-    assert!(rt; !info_of(&MbMode::outside(), false).inner);
+    let (outside, none) = (MbMode::outside(), Coefficients::none());
+    assert!(rt; info_of(&Macroblock::new(&outside, &none, true)).inner);
+    assert!(rt; !info_of(&Macroblock::new(&outside, &none, false)).inner);
 }
 
 /// An intra macroblock.
-fn intra(alloc: Global, mode: &MbMode, levels: &Levels, some: bool) -> Result<Planes, Memory>
+fn intra(
+    alloc: Global,
+    mode: &MbMode,
+    coefficients: &Coefficients,
+    has_coefficients: bool,
+) -> Result<Planes, Memory>
     requires mode { IsIntra mode.now }
-    requires none { some ≡ false → levels.now ≡ no_levels }
+    requires none { has_coefficients ≡ false → coefficients.now ≡ no_coefficients }
 {
     let mut planes = planes(alloc)?;
-    let steps = segment_steps(&header(true, true), 1);
-    build_intra(&mut planes, mode, levels, some, &steps, 0, 0);
+    let factors = segment_factors(&header(true, true), 1);
+    let block = Macroblock::new(mode, coefficients, has_coefficients);
+    build_intra(&mut planes, &block, &factors, 0, 0);
     Ok(planes)
 }
 
 #[test]
 fn intra_macroblocks(rt: HostRuntime) -> Result<(), Fail> {
-    let mut levels = Levels::none();
+    let mut coefficients = Coefficients::none();
     let whole = mode(RefKind::Intra, YMode::TM, YMode::V, [ZERO; 16]);
-    let planes = intra(rt.alloc(), &whole, &levels, false)?;
+    let planes = intra(rt.alloc(), &whole, &coefficients, false)?;
     assert_eq!(rt; at(&planes.y, [0, 100, 255]), [Some(129); 3]);
     assert_eq!(rt; at(&planes.u, [0, 20, 63]), [Some(127); 3]);
-    levels.put(0, one_level(1, 50));
-    levels.put(16, one_level(0, 5));
-    levels.put(23, one_level(0, -5));
+    coefficients.put(0, one_coefficient(1, 50));
+    coefficients.put(16, one_coefficient(0, 5));
+    coefficients.put(23, one_coefficient(0, -5));
     let parts = mode(RefKind::Intra, YMode::B, YMode::DC, [ZERO; 16]);
-    let planes = intra(rt.alloc(), &parts, &levels, true)?;
+    let planes = intra(rt.alloc(), &parts, &coefficients, true)?;
     assert_eq!(rt; at(&planes.y, [0, 1, 2]), [Some(161), Some(142), Some(115)]);
     assert_eq!(rt;
         at(&planes.u, [0, 27, 63]),
@@ -208,23 +217,16 @@ fn intra_macroblocks(rt: HostRuntime) -> Result<(), Fail> {
     Ok(())
 }
 
-/// An inter macroblock without levels.
+/// An inter macroblock without coefficients.
 fn inter(alloc: Global, mode: &MbMode) -> Result<Planes, Memory>
     requires { IsInter mode.now }
 {
     let from = planes(alloc)?;
     let mut planes = planes(alloc)?;
-    let steps = segment_steps(&header(true, true), 1);
-    build_inter(
-        &mut planes,
-        &from,
-        mode,
-        &Levels::none(),
-        false,
-        &steps,
-        0,
-        0,
-    );
+    let factors = segment_factors(&header(true, true), 1);
+    let none = Coefficients::none();
+    let block = Macroblock::new(mode, &none, false);
+    build_inter(&mut planes, &from, &block, &factors, 0, 0);
     Ok(planes)
 }
 

@@ -1,6 +1,7 @@
 pub mod Examples
 mod FullHeaders
+pub mod HeaderBits
 pub mod Placing
-pub mod Putting
+pub mod MapPairs
 pub mod ReadBack
 pub mod Values

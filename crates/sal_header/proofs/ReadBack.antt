@@ -1,15 +1,14 @@
 -- A header's fields are read as they were written.
-use Rattle.std.proofs.Common.{◌≡◌, ℕ, ◌*◌, ◌^◌, ◌<◌, ℤ, pos, List, [], ◌∷◌, ◌++◌, Bool, true, false, not, refl, if◌then◌else◌, suc, zero, replicate, length, Option, Some, None, IfSome, subst, sym, ap, arith, ◌∙◌, ◌==◌, ◌/◌, inl, inr, lit≤}
+use Rattle.std.proofs.Common.{◌≡◌, ℕ, ◌*◌, ◌^◌, ◌<◌, ℤ, pos, List, [], ◌++◌, Bool, true, false, not, refl, if◌then◌else◌, replicate, length, Option, IfSome, subst, sym, ap, arith, ◌∙◌, ◌==◌, ◌/◌, inl, inr}
 use Rattle.std.proofs.lemmas.Bool.{eqb-true, ne_eqb}
-use Rattle.sal_base.specs.Lists.{Each}
-use Rattle.sal_bool.specs.Bits.{Interval, IsProper, bits_of, bit_at, start, next}
+use Rattle.sal_bool.specs.Bits.{Interval, start}
 use Rattle.sal_bool.specs.Written.{written, steps, AreFit}
-use Rattle.sal_bool.specs.Syntax.{Syntax, Done, Bit, Follows, byte, flag, literal, signed_literal, when, flagged, optional, each, read}
-use Rattle.sal_bool.specs.Pairs.{Pairs, flag_pairs, literal_pairs, signed_pairs, flagged_pairs, optional_pairs, each_pairs}
-use Rattle.sal_bool.proofs.Laws.{Contains, contains_next, contains_narrow, contains_written, next_proper}
-use Rattle.sal_bool.proofs.Meaning.{follows_then, follows_fit, steps_append}
+use Rattle.sal_bool.specs.Syntax.{Follows, flag, literal, signed_literal, when, flagged, optional, read}
+use Rattle.sal_bool.specs.Pairs.{flag_pairs, literal_pairs, signed_pairs, flagged_pairs, all_pairs, optional_pairs}
+use Rattle.sal_bool.proofs.Meaning.{follows_then}
 use Rattle.sal_bool.proofs.Writing.{follows_done, follows_end, follows_made, follows_one, follows_literal, follows_signed, follows_flagged, follows_optional}
 use Rattle.sal_tables.specs.Tables.{update_coefficients_of, update_vectors_of, update_rows}
+use Rattle.sal_bool.proofs.ReadBack.{follows_when, follows_all, follows_same, follows_places, of_some, read_among}
 use Rattle.sal_header.specs.declared.header.Kept.{Kept}
 use Rattle.sal_header.specs.declared.header.Header.{Header}
 use Rattle.sal_header.specs.declared.parts.SegmentData.{SegmentData}
@@ -21,44 +20,7 @@ use Rattle.sal_header.specs.declared.parts.Refreshing.{Refreshing}
 use Rattle.sal_header.specs.declared.parts.InterModes.{InterModes}
 use Rattle.sal_header.specs.declared.parts.Modes.{Modes}
 use Rattle.sal_header.specs.Headers.{data_before, deltas_before, segment_data, segment_map, segments, filter_deltas, filtering, quantisers, key_refreshing, inter_refreshing, refreshing, coefficient_updates, vector_probability, vector_value, vector_updates, bytes, inter_modes, no_inter_modes, modes, header_over, header_of, header_made}
-use Rattle.sal_header.specs.Written.{segments_of, filtering_of, quantisers_of, refreshing_of, modes_of, pairs_when, all_pairs, data_pairs, map_pairs, segments_pairs, delta_pairs, deltas_pairs, filtering_pairs, quantisers_pairs, inter_refreshing_pairs, refreshing_pairs, coefficients_pairs, vector_pairs, vectors_pairs, inter_modes_pairs, modes_pairs, header_pairs, AreEach, IsBelow, IsShort, IsData, AreSegments, AreDeltas, IsFiltering, AreQuantisers, IsRefreshing, IsVectorProbability, AreInterModes, AreModes, IsWritable}
-
--- a field that is read only where a flag says so has its default elsewhere
-follows_when : {X : Type 0} (b : Bool) (s : Syntax X) (d x : X) (qs : Pairs) → (b ≡ true → Follows s qs x) → (b ≡ false → x ≡ d) → Follows (when b s d) (pairs_when b qs) x
-unfolding Follows
-follows_when true s d x qs h e = h refl
-follows_when false s d x qs h e = sym (e refl)
-
--- a value for each element, whatever the elements are
-follows_all : {X Y : Type 0} (f : X → Syntax Y) (g : Y → Pairs) (P : Y → Type 0) → ((x : X) (y : Y) → P y → Follows (f x) (g y) y) → (xs : List X) (ys : List Y) → length ys ≡ length xs → Each P ys → Follows (each f xs) (all_pairs g ys) ys
-unfolding each all_pairs
-follows_all f g P k [] [] e h = follows_done []
-follows_all f g P k [] (y ∷ ys) e h = absurd (omega arith)
-follows_all f g P k (x ∷ xs) [] e h = absurd (omega arith)
-follows_all f g P k (x ∷ xs) (y ∷ ys) e h =
-    follows_then (f x) _ (g y) (all_pairs g ys) y (y ∷ ys) (k x y h.0) (follows_made (each f xs) (λ zs. y ∷ zs) (all_pairs g ys) ys (follows_all f g P k xs ys (omega arith) h.1))
-
--- a value for the same element n times
-follows_same : {X Y : Type 0} (f : X → Syntax Y) (g : Y → Pairs) (P : Y → Type 0) (d : X) → ((y : Y) → P y → Follows (f d) (g y) y) → (n : ℕ) (ys : List Y) → length ys ≡ n → Each P ys → Follows (each f (replicate n d)) (all_pairs g ys) ys
-unfolding each all_pairs
-follows_same f g P d k zero [] e h = follows_done []
-follows_same f g P d k zero (y ∷ ys) e h = absurd (omega arith)
-follows_same f g P d k (suc n) [] e h = absurd (omega arith)
-follows_same f g P d k (suc n) (y ∷ ys) e h =
-    follows_then (f d) _ (g y) (all_pairs g ys) y (y ∷ ys) (k y h.0) (follows_made (each f (replicate n d)) (λ zs. y ∷ zs) (all_pairs g ys) ys (follows_same f g P d k n ys (omega arith) h.1))
-
--- a value under the probability of its place
-follows_places : {X Y : Type 0} (f : X → Syntax Y) (g : X → Y → Pairs) (P : Y → Type 0) → ((x : X) (y : Y) → P y → Follows (f x) (g x y) y) → (xs : List X) (ys : List Y) → length ys ≡ length xs → Each P ys → Follows (each f xs) (each_pairs g xs ys) ys
-unfolding each each_pairs
-follows_places f g P k [] [] e h = follows_done []
-follows_places f g P k [] (y ∷ ys) e h = absurd (omega arith)
-follows_places f g P k (x ∷ xs) [] e h = absurd (omega arith)
-follows_places f g P k (x ∷ xs) (y ∷ ys) e h =
-    follows_then (f x) _ (g x y) (each_pairs g xs ys) y (y ∷ ys) (k x y h.0) (follows_made (each f xs) (λ zs. y ∷ zs) (each_pairs g xs ys) ys (follows_places f g P k xs ys (omega arith) h.1))
-
-of_some : {X : Type 0} (P : X → Type 0) (o : Option X) (x : X) → o ≡ Some x → IfSome o P → P x
-of_some P None x e h = cc
-of_some {X} P (Some y) x e h = let same : y ≡ x = cc in subst P same h
+use Rattle.sal_header.specs.Written.{segments_of, filtering_of, quantisers_of, refreshing_of, modes_of, data_pairs, map_pairs, segments_pairs, delta_pairs, deltas_pairs, filtering_pairs, quantisers_pairs, inter_refreshing_pairs, refreshing_pairs, coefficients_pairs, vector_pairs, vectors_pairs, inter_modes_pairs, modes_pairs, header_pairs, AreEach, IsBelow, IsShort, IsData, AreSegments, AreDeltas, IsFiltering, AreQuantisers, IsRefreshing, IsVectorProbability, AreInterModes, AreModes, IsWritable}
 
 -- segments
 data_again : (d : SegmentData) → IsData d → Follows segment_data (data_pairs d) d
@@ -151,11 +113,11 @@ refreshing_again false r h =
 follows_byte : (p : ℕ) (u : Option ℕ) → IfSome u (IsBelow 8) → Follows (optional p (literal 8)) (optional_pairs p (literal_pairs 8) u) u
 follows_byte p u h = follows_optional p (literal 8) (literal_pairs 8) u (λ x e. follows_literal 8 x (of_some (IsBelow 8) u x e h))
 
-many_coefficients : length update_coefficients_of ≡ 1056
+pub many_coefficients : length update_coefficients_of ≡ 1056
 unfolding update_coefficients_of update_rows
 many_coefficients = refl
 
-many_vectors : length update_vectors_of ≡ 38
+pub many_vectors : length update_vectors_of ≡ 38
 unfolding update_vectors_of
 many_vectors = refl
 
@@ -220,57 +182,6 @@ header_again kept h w =
     (follows_then _ _ _ _ _ _ (coefficients_again h.updates.coefficients w.coefficients)
     (follows_then _ _ _ _ _ _ (modes_again h.key (modes_of h) w.modes)
     (follows_done h)))))))))
-
--- an interval that later bits lead from holds what they hold
-contains_before : (bytes : List ℕ) (xs : List (ℕ × Bool)) (i : Interval) → IsProper i → AreFit xs → Contains (bits_of bytes) (steps i xs) → Contains (bits_of bytes) i
-contains_before bytes [] i proper fit c = c
-contains_before bytes (x ∷ xs) i proper fit c =
-    let later = contains_before bytes xs (next i x.0 x.1) (next_proper i x.0 x.1 proper fit.0) fit.1 c in
-    (contains_narrow bytes i x.0 x.1 proper fit.0 (contains_next bytes i x.0 x.1 later)).1
-
-proper_after : (xs : List (ℕ × Bool)) (i : Interval) → IsProper i → AreFit xs → IsProper (steps i xs)
-proper_after [] i proper fit = proper
-proper_after (x ∷ xs) i proper fit = proper_after xs (next i x.0 x.1) (next_proper i x.0 x.1 proper fit.0) fit.1
-
-fit_both : (xs ys : List (ℕ × Bool)) → AreFit xs → AreFit ys → AreFit (xs ++ ys)
-fit_both [] ys a b = b
-fit_both (x ∷ xs) ys a b = (a.0, fit_both xs ys a.1 b)
-
-byte_small : (p : ℕ) → byte p < 256
-byte_small p = omega arith
-
--- a number in the interval that pairs lead to is read as what they lead to, and no further
-read_in : {X : Type 0} (s : Syntax X) (xs : List (ℕ × Bool)) (x : X) (bytes : List ℕ) (i : Interval) → IsProper i → Follows s xs x → Contains (bits_of bytes) (steps i xs) → read bytes i s ≡ (x, steps i xs)
-unfolding Follows read
-read_in {X} (Done z) [] x bytes i proper h c = ap (λ (v : X). let y : X × Interval = (v, i) in y) h
-read_in (Done z) (q ∷ qs) x bytes i proper h c = absurd h
-read_in (Bit p s) [] x bytes i proper h c = absurd h
-read_in {X} (Bit p s) (q ∷ qs) x bytes i proper h c =
-    let fit : q.0 < 256 = subst (λ (n : ℕ). n < 256) (sym h.0) (byte_small p) in
-    let after = next_proper i q.0 q.1 proper fit in
-    let later = read_in (s q.1) qs x bytes (next i q.0 q.1) after h.1 c in
-    let inside = contains_before bytes qs (next i q.0 q.1) after (follows_fit (s q.1) qs x h.1) c in
-    let here = contains_narrow bytes i q.0 q.1 proper fit (contains_next bytes i q.0 q.1 inside) in
-    let whole : X × Interval = (x, steps (next i q.0 q.1) qs) in
-    let P : ℕ → Type 0 = λ n. read bytes (next i n q.1) (s q.1) ≡ whole in
-    let a : read bytes (next i (byte p) q.1) (s q.1) ≡ whole = subst P h.0 later in
-    let e : bit_at bytes i (byte p) ≡ q.1 = ap (λ n. bit_at bytes i n) (sym h.0) ∙ here.0 in
-    let Q : Bool → Type 0 = λ b. read bytes (next i (byte p) b) (s b) ≡ whole in
-    subst Q (sym e) a
-
--- what was written among other bits is read where it was written
-read_among : {X : Type 0} (s : Syntax X) (xs : List (ℕ × Bool)) (x : X) (before more : List (ℕ × Bool)) → Follows s xs x → AreFit before → AreFit more
-    → read (written (steps (steps (steps start before) xs) more)) (steps start before) s ≡ (x, steps (steps start before) xs)
-read_among s xs x before more h a b =
-    let fit = follows_fit s xs x h in
-    let at = steps start before in
-    let first : IsProper start = record { low = lit≤ tt; high = lit≤ tt } in
-    let proper = proper_after before start first a in
-    let bytes = written (steps (steps at xs) more) in
-    let same : steps start (before ++ (xs ++ more)) ≡ steps (steps at xs) more = steps_append before (xs ++ more) start ∙ steps_append xs more at in
-    let P : Interval → Type 0 = λ i. Contains (bits_of (written i)) i in
-    let inside : Contains (bits_of bytes) (steps (steps at xs) more) = subst P same (contains_written (before ++ (xs ++ more)) (fit_both before (xs ++ more) a (fit_both xs more fit b))) in
-    read_in s xs x bytes at proper h (contains_before bytes more (steps at xs) (proper_after xs at proper fit) b inside)
 
 -- a header among other bits is read where it was written, up to where it ends
 pub header_read : (kept : Kept) (h : Header) (before more : List (ℕ × Bool)) (i j : Interval) → IsWritable kept h → AreFit before → AreFit more → i ≡ steps start before → j ≡ steps i (header_pairs h)

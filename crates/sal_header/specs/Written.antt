@@ -1,9 +1,7 @@
 -- The pairs of a probability and a bit that a header is written as, and which headers can be written. Sections are those of RFC 6386.
-use Rattle.std.specs.Prelude.{◌≡◌, ◌⊎◌, ℕ, ◌/◌, ◌%◌, ◌^◌, ◌<◌, ◌≤◌, ℤ, List, [], ◌∷◌, ◌++◌, Bool, true, false, not, ◌==◌, Option, if◌then◌else◌, replicate, length, unsigned_abs, IfSome}
+use Rattle.std.specs.Prelude.{◌≡◌, ◌⊎◌, ℕ, ◌/◌, ◌%◌, ◌^◌, ◌<◌, ◌≤◌, ℤ, List, [], ◌++◌, Bool, true, false, not, ◌==◌, Option, if◌then◌else◌, replicate, length, unsigned_abs, IfSome}
 use Rattle.sal_base.specs.Lists.{Each}
-use Rattle.sal_bool.specs.Bits.{Interval}
-use Rattle.sal_bool.specs.Written.{steps}
-use Rattle.sal_bool.specs.Pairs.{Pairs, flag_pairs, literal_pairs, signed_pairs, flagged_pairs, each_pairs, optional_pairs}
+use Rattle.sal_bool.specs.Pairs.{Pairs, flag_pairs, literal_pairs, signed_pairs, flagged_pairs, pairs_when, all_pairs, each_pairs, optional_pairs}
 use Rattle.sal_tables.specs.Tables.{update_coefficients_of, update_vectors_of}
 use Rattle.sal_header.specs.declared.header.Header.{Header}
 use Rattle.sal_header.specs.declared.header.Kept.{Kept}
@@ -35,23 +33,6 @@ inter_modes_of h = record { intra = h.prob_intra; last = h.prob_last; golden = h
 
 abbrev pub modes_of : Header → Modes
 modes_of h = record { skips = h.skips; skip = h.prob_skip; inter = inter_modes_of h }
-
--- some of these pairs were put, from the first on, and the next one wasn't
-pub record PutSome (i : Interval) (qs : Pairs) (j : Interval) : Type 0 where
-  pub front : Pairs
-  pub next : ℕ × Bool
-  pub later : Pairs
-  pub all : qs ≡ front ++ next ∷ later
-  pub puts : j ≡ steps i front
-
--- a field that is written only where b
-abbrev pub pairs_when : Bool → Pairs → Pairs
-pairs_when b qs = if b then qs else []
-
--- values one after the other
-unfoldable pub all_pairs : {Y : Type 0} → (Y → Pairs) → List Y → Pairs
-all_pairs f [] = []
-all_pairs f (y ∷ ys) = f y ++ all_pairs f ys
 
 -- segments' data, each with its flag exactly where it isn't 0 (9.3)
 unfoldable pub data_pairs : SegmentData → Pairs

@@ -16,11 +16,11 @@ pub struct Kept {
     pub ref_deltas: [i8; 4],
     /// The filter's deltas for B, zero, other and split vectors (section 9.4).
     pub mode_deltas: [i8; 4],
-    /// Whether vectors on golden are turned round (section 9.7).
+    /// The sign bias of golden: whether vectors on it are negated beside those on last (section 9.7).
     pub bias_golden: bool,
-    /// Whether vectors on alt are turned round.
+    /// The sign bias of alt, alike.
     pub bias_alt: bool,
-    /// The segment of each macroblock, in raster order (section 9.3).
+    /// The segment map: the segment of each macroblock, 0 to 3, in raster order (section 9.3).
     pub map: Bytes,
     /// The probabilities in use (sections 9.10, 13.4 and 17.2).
     pub probs: Probs,
@@ -58,13 +58,13 @@ pub struct Header {
     pub refresh_golden: bool,
     /// Whether the picture becomes alt, in inter frames (section 9.7).
     pub refresh_alt: bool,
-    /// Whether vectors on golden are turned round (section 9.7).
+    /// The sign bias of golden: whether vectors on it are negated beside those on last (section 9.7).
     pub bias_golden: bool,
-    /// Whether vectors on alt are turned round (section 9.7).
+    /// The sign bias of alt, alike (section 9.7).
     pub bias_alt: bool,
     /// Whether the picture becomes last, in inter frames.
     pub refresh_last: bool,
-    /// Whether macroblocks say that they have no levels (mb_no_coeff_skip).
+    /// Whether macroblocks say that they have no coefficients (mb_no_coeff_skip).
     pub skips: bool,
     /// The quantisers of the segments, from -127 to 127.
     pub quantisers: [i8; 4],
@@ -74,7 +74,8 @@ pub struct Header {
     pub ref_deltas: [i8; 4],
     /// The filter's deltas by mode, from -63 to 63.
     pub mode_deltas: [i8; 4],
-    /// The probabilities of the segment map, 255 where unflagged (section 9.3).
+    /// The probabilities of the tree that macroblocks say their segments by, 255 where unflagged (section 9.3); the map itself is
+    /// `Kept::map`.
     pub map: [u8; 3],
     /// The filter's level, at most 63 (section 9.4).
     pub level: u8,
@@ -88,7 +89,7 @@ pub struct Header {
     pub copy_golden: u8,
     /// What is copied to alt: 1 last, 2 golden, else nothing (section 9.7).
     pub copy_alt: u8,
-    /// The probability, of 256, that a macroblock has levels, 0 where none says so (section 9.11).
+    /// The probability, of 256, that a macroblock has coefficients, 0 where none says so (section 9.11).
     pub prob_skip: u8,
     /// The probability, of 256, that a macroblock is intra (section 9.10).
     pub prob_intra: u8,
@@ -96,15 +97,15 @@ pub struct Header {
     pub prob_last: u8,
     /// The probability, of 256, that it is golden, where it isn't last (section 9.10).
     pub prob_golden: u8,
-    /// The index's delta for the first level of luma blocks, from -15 to 15 (section 9.6).
+    /// The index's delta for the first coefficient of luma blocks, from -15 to 15 (section 9.6).
     pub y_dc: i8,
-    /// The delta for the first level of second-order blocks, from -15 to 15.
+    /// The delta for the first coefficient of second-order blocks, from -15 to 15.
     pub y2_dc: i8,
-    /// The delta for the other levels of second-order blocks, from -15 to 15.
+    /// The delta for the other coefficients of second-order blocks, from -15 to 15.
     pub y2_ac: i8,
-    /// The delta for the first level of chroma blocks, from -15 to 15.
+    /// The delta for the first coefficient of chroma blocks, from -15 to 15.
     pub uv_dc: i8,
-    /// The delta for the other levels of chroma blocks, from -15 to 15.
+    /// The delta for the other coefficients of chroma blocks, from -15 to 15.
     pub uv_ac: i8,
     /// The probabilities that the header replaces (sections 9.10, 13.4 and 17.2).
     pub updates: Updates,

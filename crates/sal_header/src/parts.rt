@@ -22,7 +22,7 @@ pub(crate) struct Segments {
     pub update_data: bool,
     /// The data, the state's where it isn't said.
     pub data: SegmentData,
-    /// The map's probabilities, 0 where no map is said.
+    /// The probabilities of the tree that macroblocks say their segments by, 0 where they don't.
     pub map: [u8; 3],
 }
 
@@ -57,15 +57,15 @@ pub(crate) struct Filtering {
 pub(crate) struct Quantisers {
     /// The index, at most 127.
     pub y_ac: u8,
-    /// For the first level of luma blocks, from -15 to 15, as all deltas.
+    /// For the first coefficient of luma blocks, from -15 to 15, as all deltas.
     pub y_dc: i8,
-    /// For the first level of second-order blocks.
+    /// For the first coefficient of second-order blocks.
     pub y2_dc: i8,
-    /// For the other levels of second-order blocks.
+    /// For the other coefficients of second-order blocks.
     pub y2_ac: i8,
-    /// For the first level of chroma blocks.
+    /// For the first coefficient of chroma blocks.
     pub uv_dc: i8,
-    /// For the other levels of chroma blocks.
+    /// For the other coefficients of chroma blocks.
     pub uv_ac: i8,
 }
 
@@ -80,9 +80,9 @@ pub(crate) struct Refreshing {
     pub copy_golden: u8,
     /// What is copied to alt: 1 last, 2 golden, else nothing.
     pub copy_alt: u8,
-    /// Whether vectors on golden are turned round.
+    /// The sign bias of golden: whether vectors on it are negated beside those on last.
     pub bias_golden: bool,
-    /// Whether vectors on alt are turned round.
+    /// The sign bias of alt, alike.
     pub bias_alt: bool,
     /// Whether the probabilities serve the next frames too.
     pub entropy: bool,
@@ -110,9 +110,9 @@ pub(crate) struct InterModes {
 /// The probabilities of macroblocks' modes (sections 9.10 and 9.11).
 #[derive(Clone, Copy)]
 pub(crate) struct Modes {
-    /// Whether macroblocks say that they have no levels.
+    /// Whether macroblocks say that they have no coefficients.
     pub skips: bool,
-    /// The probability, of 256, that a macroblock has levels, 0 where none says so.
+    /// The probability, of 256, that a macroblock has coefficients, 0 where none says so.
     pub skip: u8,
     /// Those of an inter frame's modes; none in a key frame.
     pub inter: InterModes,

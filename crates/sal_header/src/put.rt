@@ -2,8 +2,9 @@
 
 ghost use Rattle.std.specs.Prelude.{◌≡◌, ◌<◌, ◌≤◌, ◌^◌, ◌/◌, ℕ, ℤ, Option, length, unsigned_abs, OnOk, OnErr};
 ghost use Rattle.sal_bool.specs.Written.{steps};
-ghost use Rattle.sal_bool.specs.Pairs.{pair, flag_pairs, literal_pairs, signed_pairs, flagged_pairs, optional_pairs};
-ghost use Rattle.sal_header.specs.Written.{PutSome, pairs_when, all_pairs, map_pairs, delta_pairs, vector_pairs, coefficients_pairs, vectors_pairs};
+ghost use Rattle.sal_bool.specs.Pairs.{pair, flag_pairs, literal_pairs, signed_pairs, flagged_pairs, optional_pairs, pairs_when, all_pairs};
+ghost use Rattle.sal_bool.specs.Put.{PutSome};
+ghost use Rattle.sal_header.specs.Written.{map_pairs, delta_pairs, vector_pairs, coefficients_pairs, vectors_pairs};
 
 use sal_base::Memory;
 use sal_bool::Encoder;

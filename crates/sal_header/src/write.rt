@@ -6,7 +6,9 @@ ghost use Rattle.sal_bool.specs.Syntax.{read, Follows};
 ghost use Rattle.sal_bool.specs.Written.{steps, written, AreFit};
 ghost use Rattle.sal_header.specs.declared.header.Kept.{Kept};
 ghost use Rattle.sal_header.specs.Headers.{header_of};
-ghost use Rattle.sal_header.specs.Written.{PutSome, segments_of, filtering_of, quantisers_of, refreshing_of, inter_modes_of, modes_of, pairs_when, all_pairs, map_pairs, data_pairs, segments_pairs, deltas_pairs, filtering_pairs, quantisers_pairs, inter_refreshing_pairs, refreshing_pairs, inter_modes_pairs, modes_pairs, header_pairs, IsWritable};
+ghost use Rattle.sal_bool.specs.Pairs.{pairs_when, all_pairs};
+ghost use Rattle.sal_bool.specs.Put.{PutSome};
+ghost use Rattle.sal_header.specs.Written.{segments_of, filtering_of, quantisers_of, refreshing_of, inter_modes_of, modes_of, map_pairs, data_pairs, segments_pairs, deltas_pairs, filtering_pairs, quantisers_pairs, inter_refreshing_pairs, refreshing_pairs, inter_modes_pairs, modes_pairs, header_pairs, IsWritable};
 
 use crate::header::Header;
 use crate::parts::{Deltas, Filtering, InterModes, Quantisers, Refreshing, SegmentData, Segments};

@@ -37,15 +37,15 @@ chroma_edge e = record { side = 8; above = e.above; left = e.left; corner = e.co
 
 -- by mode: the average, the sample above in this column, the one left in this row, or both less the corner
 abbrev pub by_mode : YMode → ℕ → ℕ → ℕ → ℕ → ℕ
-by_mode DC mean above left corner = mean
-by_mode V mean above left corner = above
-by_mode H mean above left corner = left
-by_mode TM mean above left corner = true_motion left above corner
-by_mode _ mean above left corner = mean
+by_mode DC dc above left corner = dc
+by_mode V dc above left corner = above
+by_mode H dc above left corner = left
+by_mode TM dc above left corner = true_motion left above corner
+by_mode _ dc above left corner = dc
 
-abbrev pub mean_of : Edge → ℕ
-mean_of e = edge_average e.side e.above e.left e.has_above e.has_left
+abbrev pub dc_of : Edge → ℕ
+dc_of e = edge_average e.side e.above e.left e.has_above e.has_left
 
 -- the sample at a row and column
 abbrev pub whole_sample : YMode → Edge → ℕ → ℕ → ℕ
-whole_sample mode e row column = by_mode mode (mean_of e) (slice_index e.above column) (slice_index e.left row) e.corner
+whole_sample mode e row column = by_mode mode (dc_of e) (slice_index e.above column) (slice_index e.left row) e.corner

@@ -6,11 +6,11 @@ use Rattle.sal_intra.specs.declared.edge.SubEdge.{SubEdge}
 use Rattle.sal_intra.specs.Intra.{true_motion}
 
 -- the mean of two samples, and that of three of which the middle one counts twice
-abbrev pub mean : ℕ → ℕ → ℕ
-mean x y = (x + y + 1) / 2
+abbrev pub average_of_two : ℕ → ℕ → ℕ
+average_of_two x y = (x + y + 1) / 2
 
-abbrev pub third : ℕ → ℕ → ℕ → ℕ
-third x y z = (x + 2 * y + z + 2) / 4
+abbrev pub average_of_three : ℕ → ℕ → ℕ → ℕ
+average_of_three x y z = (x + 2 * y + z + 2) / 4
 
 -- samples above and left; past the end the last one
 abbrev pub sample_above : SubEdge → ℕ → ℕ
@@ -24,18 +24,18 @@ abbrev pub edge_sample : SubEdge → ℕ → ℕ
 edge_sample e i = if nat_lt i 4 then sample_left e (3 - i) else (if i == 4 then e.corner else sample_above e (i - 5))
 
 -- means along a row of samples
-abbrev pub means : (ℕ → ℕ) → ℕ → ℕ
-means f i = mean (f i) (f (i + 1))
+abbrev pub averages_of_two : (ℕ → ℕ) → ℕ → ℕ
+averages_of_two f i = average_of_two (f i) (f (i + 1))
 
-abbrev pub thirds : (ℕ → ℕ) → ℕ → ℕ
-thirds f i = third (f i) (f (i + 1)) (f (i + 2))
+abbrev pub averages_of_three : (ℕ → ℕ) → ℕ → ℕ
+averages_of_three f i = average_of_three (f i) (f (i + 1)) (f (i + 2))
 
 -- the mean of the edge around its sample i, and that of i and the next one
-abbrev pub round : SubEdge → ℕ → ℕ
-round e i = third (edge_sample e (i - 1)) (edge_sample e i) (edge_sample e (i + 1))
+abbrev pub edge_average_of_three : SubEdge → ℕ → ℕ
+edge_average_of_three e i = average_of_three (edge_sample e (i - 1)) (edge_sample e i) (edge_sample e (i + 1))
 
-abbrev pub step : SubEdge → ℕ → ℕ
-step e i = means (edge_sample e) i
+abbrev pub edge_average_of_two : SubEdge → ℕ → ℕ
+edge_average_of_two e i = averages_of_two (edge_sample e) i
 
 -- four rows of four samples, taken at a row and column
 abbrev pub from_rows : List ℕ → ℕ → ℕ → ℕ
@@ -44,33 +44,33 @@ from_rows xs row column = slice_index xs (4 * row + column)
 -- bVR
 unfoldable pub right_rows : SubEdge → List ℕ
 right_rows e =
-    step e 4 ∷ step e 5 ∷ step e 6 ∷ step e 7
-    ∷ round e 4 ∷ round e 5 ∷ round e 6 ∷ round e 7
-    ∷ round e 3 ∷ step e 4 ∷ step e 5 ∷ step e 6
-    ∷ round e 2 ∷ round e 4 ∷ round e 5 ∷ round e 6 ∷ []
+    edge_average_of_two e 4 ∷ edge_average_of_two e 5 ∷ edge_average_of_two e 6 ∷ edge_average_of_two e 7
+    ∷ edge_average_of_three e 4 ∷ edge_average_of_three e 5 ∷ edge_average_of_three e 6 ∷ edge_average_of_three e 7
+    ∷ edge_average_of_three e 3 ∷ edge_average_of_two e 4 ∷ edge_average_of_two e 5 ∷ edge_average_of_two e 6
+    ∷ edge_average_of_three e 2 ∷ edge_average_of_three e 4 ∷ edge_average_of_three e 5 ∷ edge_average_of_three e 6 ∷ []
 
 -- bVL
 unfoldable pub left_rows : SubEdge → List ℕ
 left_rows e =
-    means (sample_above e) 0 ∷ means (sample_above e) 1 ∷ means (sample_above e) 2 ∷ means (sample_above e) 3
-    ∷ thirds (sample_above e) 0 ∷ thirds (sample_above e) 1 ∷ thirds (sample_above e) 2 ∷ thirds (sample_above e) 3
-    ∷ means (sample_above e) 1 ∷ means (sample_above e) 2 ∷ means (sample_above e) 3 ∷ thirds (sample_above e) 4
-    ∷ thirds (sample_above e) 1 ∷ thirds (sample_above e) 2 ∷ thirds (sample_above e) 3 ∷ thirds (sample_above e) 5 ∷ []
+    averages_of_two (sample_above e) 0 ∷ averages_of_two (sample_above e) 1 ∷ averages_of_two (sample_above e) 2 ∷ averages_of_two (sample_above e) 3
+    ∷ averages_of_three (sample_above e) 0 ∷ averages_of_three (sample_above e) 1 ∷ averages_of_three (sample_above e) 2 ∷ averages_of_three (sample_above e) 3
+    ∷ averages_of_two (sample_above e) 1 ∷ averages_of_two (sample_above e) 2 ∷ averages_of_two (sample_above e) 3 ∷ averages_of_three (sample_above e) 4
+    ∷ averages_of_three (sample_above e) 1 ∷ averages_of_three (sample_above e) 2 ∷ averages_of_three (sample_above e) 3 ∷ averages_of_three (sample_above e) 5 ∷ []
 
 -- bHD
 unfoldable pub down_rows : SubEdge → List ℕ
 down_rows e =
-    step e 3 ∷ round e 4 ∷ round e 5 ∷ round e 6
-    ∷ step e 2 ∷ round e 3 ∷ step e 3 ∷ round e 4
-    ∷ step e 1 ∷ round e 2 ∷ step e 2 ∷ round e 3
-    ∷ step e 0 ∷ round e 1 ∷ step e 1 ∷ round e 2 ∷ []
+    edge_average_of_two e 3 ∷ edge_average_of_three e 4 ∷ edge_average_of_three e 5 ∷ edge_average_of_three e 6
+    ∷ edge_average_of_two e 2 ∷ edge_average_of_three e 3 ∷ edge_average_of_two e 3 ∷ edge_average_of_three e 4
+    ∷ edge_average_of_two e 1 ∷ edge_average_of_three e 2 ∷ edge_average_of_two e 2 ∷ edge_average_of_three e 3
+    ∷ edge_average_of_two e 0 ∷ edge_average_of_three e 1 ∷ edge_average_of_two e 1 ∷ edge_average_of_three e 2 ∷ []
 
 -- bHU
 unfoldable pub up_rows : SubEdge → List ℕ
 up_rows e =
-    means (sample_left e) 0 ∷ thirds (sample_left e) 0 ∷ means (sample_left e) 1 ∷ thirds (sample_left e) 1
-    ∷ means (sample_left e) 1 ∷ thirds (sample_left e) 1 ∷ means (sample_left e) 2 ∷ thirds (sample_left e) 2
-    ∷ means (sample_left e) 2 ∷ thirds (sample_left e) 2 ∷ sample_left e 3 ∷ sample_left e 3
+    averages_of_two (sample_left e) 0 ∷ averages_of_three (sample_left e) 0 ∷ averages_of_two (sample_left e) 1 ∷ averages_of_three (sample_left e) 1
+    ∷ averages_of_two (sample_left e) 1 ∷ averages_of_three (sample_left e) 1 ∷ averages_of_two (sample_left e) 2 ∷ averages_of_three (sample_left e) 2
+    ∷ averages_of_two (sample_left e) 2 ∷ averages_of_three (sample_left e) 2 ∷ sample_left e 3 ∷ sample_left e 3
     ∷ sample_left e 3 ∷ sample_left e 3 ∷ sample_left e 3 ∷ sample_left e 3 ∷ []
 
 -- the modes whose sample is one formula of its row and column
@@ -89,10 +89,10 @@ sub_average e = (sum (take 4 e.above) + sum e.left + 4) / 8
 unfoldable pub sub_sample : SubMode → SubEdge → ℕ → ℕ → ℕ
 sub_sample BDC e row column = sub_average e
 sub_sample BTM e row column = true_motion (sample_left e row) (sample_above e column) e.corner
-sub_sample BVE e row column = round e (5 + column)
-sub_sample BHE e row column = third (edge_sample e (4 - row)) (sample_left e row) (sample_left e (row + 1))
-sub_sample BLD e row column = thirds (sample_above e) (row + column)
-sub_sample BRD e row column = round e ((4 - row) + column)
+sub_sample BVE e row column = edge_average_of_three e (5 + column)
+sub_sample BHE e row column = average_of_three (edge_sample e (4 - row)) (sample_left e row) (sample_left e (row + 1))
+sub_sample BLD e row column = averages_of_three (sample_above e) (row + column)
+sub_sample BRD e row column = edge_average_of_three e ((4 - row) + column)
 sub_sample BVR e row column = from_rows (right_rows e) row column
 sub_sample BVL e row column = from_rows (left_rows e) row column
 sub_sample BHD e row column = from_rows (down_rows e) row column

@@ -2,10 +2,12 @@
 #![tactic(auto)]
 
 mod edge;
+mod edges;
 mod sub;
 mod whole;
 
 pub use edge::{ChromaEdge, LumaEdge, SubEdge};
+pub use edges::{chroma_edge, luma_edge, sub_edge};
 pub use sub::predict_sub;
 pub use whole::{predict_chroma, predict_luma};
 

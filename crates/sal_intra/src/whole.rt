@@ -3,7 +3,7 @@
 ghost use Rattle.std.specs.Prelude.{◌≡◌, ◌+◌, ◌*◌, ◌≤◌, IsTrue, length, sum, take, slice_index};
 ghost use Rattle.sal_base.specs.Samples.{IsBlockOf};
 ghost use Rattle.sal_base.specs.Kinds.{is_whole};
-ghost use Rattle.sal_intra.specs.Intra.{true_motion, average, edge_average, by_mode, mean_of, whole_sample, luma_edge, chroma_edge};
+ghost use Rattle.sal_intra.specs.Intra.{true_motion, average, edge_average, by_mode, dc_of, whole_sample, luma_edge, chroma_edge};
 
 use crate::edge::{ChromaEdge, LumaEdge};
 use sal_base::YMode;
@@ -31,8 +31,8 @@ fn average(total: u32, count: u32) -> u8
 }
 
 // The average of the edges in the picture, of squares of 16.
-fn luma_mean(edge: &LumaEdge) -> u8
-    ensures { result ≡ mean_of (luma_edge edge.now) }
+fn luma_average(edge: &LumaEdge) -> u8
+    ensures { result ≡ dc_of (luma_edge edge.now) }
 {
     match (edge.has_above, edge.has_left) {
         (true, true) => average(total(&edge.above[..16]) + total(&edge.left), 32),
@@ -43,8 +43,8 @@ fn luma_mean(edge: &LumaEdge) -> u8
 }
 
 // The average of the edges in the picture, of squares of 8.
-fn chroma_mean(edge: &ChromaEdge) -> u8
-    ensures { result ≡ mean_of (chroma_edge edge.now) }
+fn chroma_average(edge: &ChromaEdge) -> u8
+    ensures { result ≡ dc_of (chroma_edge edge.now) }
 {
     match (edge.has_above, edge.has_left) {
         (true, true) => average(total(&edge.above) + total(&edge.left), 16),
@@ -64,25 +64,25 @@ pub(crate) fn true_motion(left: u8, above: u8, corner: u8) -> u8
 }
 
 // A sample by its mode.
-fn by_mode(mode: YMode, mean: u8, above: u8, left: u8, corner: u8) -> u8
-    ensures { result ≡ by_mode mode mean above left corner }
+fn by_mode(mode: YMode, dc: u8, above: u8, left: u8, corner: u8) -> u8
+    ensures { result ≡ by_mode mode dc above left corner }
 {
     match mode {
         YMode::V => above,
         YMode::H => left,
         YMode::TM => true_motion(left, above, corner),
-        _ => mean,
+        _ => dc,
     }
 }
 
 // A square of 16 by its mode.
-fn square(mode: YMode, mean: u8, above: &[u8], left: &[u8; 16], corner: u8) -> [u8; 256]
+fn square(mode: YMode, dc: u8, above: &[u8], left: &[u8; 16], corner: u8) -> [u8; 256]
     requires above { length above.now ≡ 16 }
-    ensures { IsBlockOf 16 256 result (λ row column. by_mode mode mean (slice_index above.now column) (slice_index left.now row) corner) }
+    ensures { IsBlockOf 16 256 result (λ row column. by_mode mode dc (slice_index above.now column) (slice_index left.now row) corner) }
 {
     let mut out = [0u8; 256];
     for (k, sample) in out.iter_mut().enumerate() {
-        *sample = by_mode(mode, mean, above[k % 16], left[k / 16], corner);
+        *sample = by_mode(mode, dc, above[k % 16], left[k / 16], corner);
     }
     out
 }
@@ -92,8 +92,8 @@ pub fn predict_luma(mode: YMode, edge: &LumaEdge) -> [u8; 256]
     requires whole { IsTrue (is_whole mode) }
     ensures { IsBlockOf 16 256 result (whole_sample mode (luma_edge edge.now)) }
 {
-    let mean = luma_mean(edge);
-    square(mode, mean, &edge.above[..16], &edge.left, edge.corner)
+    let dc = luma_average(edge);
+    square(mode, dc, &edge.above[..16], &edge.left, edge.corner)
 }
 
 /// The samples of a macroblock in a chroma plane, row by row, by one of the first four modes.
@@ -101,10 +101,10 @@ pub fn predict_chroma(mode: YMode, edge: &ChromaEdge) -> [u8; 64]
     requires whole { IsTrue (is_whole mode) }
     ensures { IsBlockOf 8 64 result (whole_sample mode (chroma_edge edge.now)) }
 {
-    let mean = chroma_mean(edge);
+    let dc = chroma_average(edge);
     let mut out = [0u8; 64];
     for (k, sample) in out.iter_mut().enumerate() {
-        *sample = by_mode(mode, mean, edge.above[k % 8], edge.left[k / 8], edge.corner);
+        *sample = by_mode(mode, dc, edge.above[k % 8], edge.left[k / 8], edge.corner);
     }
     out
 }

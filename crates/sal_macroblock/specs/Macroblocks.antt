@@ -1,5 +1,6 @@
 -- Macroblocks: their kinds, their vectors, and the one that stands for those outside the picture. Sections are those of RFC 6386.
-use Rattle.std.specs.Prelude.{ℕ, ℤ, pos, List, Bool, true, false, replicate, slice_index_or}
+use Rattle.std.specs.Prelude.{◌≡◌, ◌≤◌, ◌||◌, ℕ, ℤ, pos, List, Bool, true, false, replicate, slice_index_or}
+use Rattle.sal_base.specs.Kinds.{is_whole}
 use Rattle.sal_base.specs.declared.kinds.Vector.{Vector}
 use Rattle.sal_base.specs.declared.kinds.YMode.{YMode}
 use Rattle.sal_base.specs.declared.kinds.YMode.TheVariants.{DC, V, H, TM, B, SPLIT}
@@ -40,7 +41,7 @@ abbrev pub is_b : YMode → Bool
 is_b B = true
 is_b _ = false
 
--- the first levels of the luma blocks stand in a block of their own, unless subblocks are predicted one by one (13)
+-- the first coefficients of the luma blocks stand in a block of their own, unless subblocks are predicted one by one (13)
 abbrev pub has_y2 : YMode → Bool
 has_y2 B = false
 has_y2 SPLIT = false
@@ -56,3 +57,19 @@ implied _ = BDC
 -- outside the picture: intra, DC, each subblock bDC, no vectors (11.3 and 16.3)
 unfoldable pub outside : MbMode
 outside = record { segment = 0; skip = false; reference = Intra; y = DC; sub = replicate 16 BDC; chroma = DC; vectors = replicate 16 zero_vector }
+
+-- the Y modes of an intra macroblock; the others are those of an inter one (8 and 16.3)
+abbrev pub is_intra_mode : YMode → Bool
+is_intra_mode y = is_b y || is_whole y
+
+-- what is true of each macroblock that is read: one of four segments; a Y mode that fits its reference; a whole chroma mode, DC in
+-- an inter one; for each subblock the mode that its Y mode counts as, unless that is B; one vector for all blocks, unless it is in
+-- parts, and no motion in an intra one (8, 10, 11.3 and 16.3)
+pub record HasFittingModes (m : MbMode) : Type 0 where
+  pub segment : m.segment ≤ 3
+  pub luma : is_intra_mode m.y ≡ is_intra m.reference
+  pub chroma : is_whole m.chroma ≡ true
+  pub inter_chroma : is_intra m.reference ≡ false → m.chroma ≡ DC
+  pub sub : is_b m.y ≡ false → m.sub ≡ replicate 16 (implied m.y)
+  pub vectors : is_split m.y ≡ false → m.vectors ≡ replicate 16 (own_vector m)
+  pub still : is_intra m.reference ≡ true → m.vectors ≡ replicate 16 zero_vector

@@ -1,12 +1,12 @@
-//! What the bits say of one macroblock: its modes and vectors, and the levels of its blocks.
+//! What the bits say of one macroblock: its modes and vectors, and the coefficients of its blocks.
 #![tactic(auto)]
 
 mod block;
-mod levels;
+mod coefficients;
 mod mode;
 
 pub use block::Block;
-pub use levels::Levels;
+pub use coefficients::Coefficients;
 pub use mode::{MbMode, RefKind};
 
 #[cfg(test)]

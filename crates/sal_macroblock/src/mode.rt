@@ -21,7 +21,7 @@ pub enum RefKind {
 pub struct MbMode {
     /// The segment, 0 to 3 (RFC 6386, section 10).
     pub segment: u8,
-    /// Whether its blocks have no levels, and no tokens (section 11.1).
+    /// Whether its blocks have no coefficients, and no tokens (section 11.1).
     pub skip: bool,
     pub reference: RefKind,
     pub y: YMode,
@@ -61,7 +61,7 @@ impl MbMode {
         }
     }
 
-    /// Whether the first levels of its luma blocks stand in a block of their own (RFC 6386, section 13).
+    /// Whether the first coefficients of its luma blocks stand in a block of their own (RFC 6386, section 13).
     pub fn has_y2(&self) -> bool
         ensures { result ≡ has_y2 self.now.y }
     {

@@ -21,13 +21,13 @@ fn a_macroblock_tells_its_kind(rt: HostRuntime) -> Result<(), Fail> {
 }
 
 #[test]
-fn levels_stand_by_block(rt: HostRuntime) {
-    let mut levels = Levels::none();
+fn coefficients_stand_by_block(rt: HostRuntime) {
+    let mut coefficients = Coefficients::none();
     let mut block = Block([0; 16]);
     block.0[15] = -2114;
-    levels.put(23, block);
-    assert_eq!(rt; *levels.block(23), block);
-    assert_eq!(rt; *levels.block(24), Block([0; 16]));
-    levels.clear();
-    assert_eq!(rt; *levels.block(23), Block([0; 16]));
+    coefficients.put(23, block);
+    assert_eq!(rt; *coefficients.block(23), block);
+    assert_eq!(rt; *coefficients.block(24), Block([0; 16]));
+    coefficients.clear();
+    assert_eq!(rt; *coefficients.block(23), Block([0; 16]));
 }

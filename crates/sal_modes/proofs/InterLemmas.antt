@@ -14,7 +14,7 @@ use Rattle.sal_tables.specs.Trees.{segment_entries, vector_mode_entries}
 use Rattle.sal_probs.specs.Probabilities.{Table}
 use Rattle.sal_header.specs.declared.header.Header.{Header}
 use Rattle.sal_macroblock.specs.Sizes.{Within}
-use Rattle.sal_macroblock.specs.Macroblocks.{vector, vector_at, zero_vector, is_intra, is_split, implied}
+use Rattle.sal_macroblock.specs.Macroblocks.{vector, vector_at, zero_vector, is_intra, is_split, implied, is_intra_mode, HasFittingModes}
 use Rattle.sal_macroblock.specs.declared.mode.RefKind.{RefKind}
 use Rattle.sal_macroblock.specs.declared.mode.MbMode.{MbMode}
 use Rattle.sal_modes.specs.declared.around.Bias.{Bias}
@@ -25,7 +25,7 @@ use Rattle.sal_modes.specs.Vectors.{between, plus, AreNear}
 use Rattle.sal_modes.specs.Near.{near_of}
 use Rattle.sal_modes.specs.ReadVectors.{read_vector}
 use Rattle.sal_modes.specs.IntraModes.{intra_mode}
-use Rattle.sal_modes.specs.Modes.{vector_mode, mode_row, vectors_of, reference_of, bias_for, inter_mode, mb_mode, is_intra_mode, HasFittingModes}
+use Rattle.sal_modes.specs.Modes.{vector_mode, mode_row, vectors_of, reference_of, bias_for, inter_mode, mb_mode}
 
 -- what has no bits
 pub unread : {X : Type 0} (b : Bool) (s : Syntax X) (d : X) (r : Reading) → b ≡ false → run (when b s d) r ≡ (d, r)

@@ -13,9 +13,8 @@ use Rattle.sal_tables.specs.declared.tree.Entry.{Entry}
 use Rattle.sal_probs.specs.Probabilities.{Table}
 use Rattle.sal_macroblock.specs.declared.mode.RefKind.TheVariants.{Intra}
 use Rattle.sal_macroblock.specs.declared.mode.MbMode.{MbMode}
-use Rattle.sal_macroblock.specs.Macroblocks.{is_b, implied, zero_vector}
+use Rattle.sal_macroblock.specs.Macroblocks.{is_b, implied, zero_vector, is_intra_mode, HasFittingModes}
 use Rattle.sal_modes.specs.Around.{Around}
-use Rattle.sal_modes.specs.Modes.{is_intra_mode, HasFittingModes}
 use Rattle.sal_modes.specs.IntraModes.{whole_mode, sub_mode, sub_modes, sub_probabilities, y_mode, chroma_mode, intra_mode}
 
 -- what is read of one leaf, as the definition names the tree and the probabilities

@@ -8,3 +8,4 @@ pub mod Raster
 pub mod SplitLemmas
 mod VectorExamples
 pub mod VectorLemmas
+pub mod Suggested

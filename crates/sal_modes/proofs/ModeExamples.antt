@@ -72,7 +72,7 @@ above_near = record { segment = 2; skip = true; reference = Alt; y = NEW; sub = 
 left_near : MbMode
 left_near = record { segment = 3; skip = false; reference = Last; y = SPLIT; sub = replicate 16 BDC; chroma = DC; vectors = vector (negsuc 0) (pos 90) ∷ vector (negsuc 0) (pos 90) ∷ vector (negsuc 5) (pos 93) ∷ vector (negsuc 5) (pos 93) ∷ vector (pos 0) (pos 0) ∷ vector (negsuc 0) (pos 90) ∷ vector (negsuc 0) (pos 90) ∷ vector (negsuc 0) (pos 90) ∷ vector (negsuc 3) (pos 82) ∷ vector (negsuc 3) (pos 82) ∷ vector (negsuc 0) (pos 90) ∷ vector (negsuc 0) (pos 90) ∷ vector (negsuc 0) (pos 91) ∷ vector (negsuc 3) (pos 82) ∷ vector (negsuc 0) (pos 90) ∷ vector (negsuc 0) (pos 90) ∷ [] }
 
--- NEAR, with vectors turned round
+-- NEAR, with vectors negated by sign bias
 near : (read (62 ∷ 73 ∷ 80 ∷ 79 ∷ 105 ∷ 94 ∷ 114 ∷ 159 ∷ 57 ∷ 239 ∷ 77 ∷ 86 ∷ 135 ∷ 231 ∷ 254 ∷ 54 ∷ 115 ∷ 94 ∷ 233 ∷ 23 ∷ 212 ∷ 131 ∷ 163 ∷ 97 ∷ 117 ∷ 79 ∷ 103 ∷ 98 ∷ 23 ∷ 242 ∷ 116 ∷ 197 ∷ 195 ∷ 40 ∷ 193 ∷ 111 ∷ 120 ∷ 157 ∷ 136 ∷ 42 ∷ 248 ∷ 60 ∷ 139 ∷ 183 ∷ 64 ∷ 27 ∷ 120 ∷ 91 ∷ 117 ∷ 63 ∷ []) start (mb_mode inter_head initial_table (record { above = above_near; left = left_near; corner = above_near; bounds = bounds_of 10 9 3 4 }))).0 ≡ record { segment = 1; skip = false; reference = Golden; y = NEAR; sub = replicate 16 BDC; chroma = DC; vectors = replicate 16 (vector (pos 1) (negsuc 89)) }
 unfolding head inter_head above_near left_near read widen next ◌>>=◌ walk listed_from initial_table default_vectors_of inter_y_probabilities_of inter_chroma_probabilities_of key_y_probabilities_of key_chroma_probabilities_of subblock_probabilities_of inter_subblock_probabilities_of vector_mode_probabilities_of split_probabilities_of sub_vector_probabilities_of segment_entries key_y_entries inter_y_entries chroma_entries subblock_entries vector_mode_entries split_entries sub_vector_entries short_vector_entries near_of noted put_motion mb_mode intra_mode inter_mode sub_modes sub_row bits_at long_size component read_vector parts sub_vector split_vectors outside
 near = refl

@@ -70,19 +70,3 @@ mb_mode h probs a = do
   inter ← when (not h.key) (one h.prob_intra) false
   m ← (if inter then inter_mode h probs a else intra_mode h.key probs a)
   Done (record m { segment = segment; skip = skip })
-
--- the Y modes of an intra macroblock; the others are those of an inter one (8 and 16.3)
-abbrev pub is_intra_mode : YMode → Bool
-is_intra_mode y = is_b y || is_whole y
-
--- what is true of each macroblock that is read: one of four segments; a Y mode that fits its reference; a whole chroma mode, DC in
--- an inter one; for each subblock the mode that its Y mode counts as, unless that is B; one vector for all blocks, unless it is in
--- parts, and no motion in an intra one (8, 10, 11.3 and 16.3)
-pub record HasFittingModes (m : MbMode) : Type 0 where
-  pub segment : m.segment ≤ 3
-  pub luma : is_intra_mode m.y ≡ is_intra m.reference
-  pub chroma : is_whole m.chroma ≡ true
-  pub inter_chroma : is_intra m.reference ≡ false → m.chroma ≡ DC
-  pub sub : is_b m.y ≡ false → m.sub ≡ replicate 16 (implied m.y)
-  pub vectors : is_split m.y ≡ false → m.vectors ≡ replicate 16 (own_vector m)
-  pub still : is_intra m.reference ≡ true → m.vectors ≡ replicate 16 zero_vector

@@ -1,5 +1,5 @@
 -- The vectors that the macroblocks above, left and above-left suggest (RFC 6386, 16.3).
-use Rattle.std.specs.Prelude.{ℕ, ◌+◌, ℤ, pos, neg_ℤ, List, Bool, false, ◌&&◌, not, nat_lt, nat_le, ◌==◌, if◌then◌else◌, replicate, slice_index, slice_index_or, slice_set}
+use Rattle.std.specs.Prelude.{◌≡◌, ◌⊎◌, ◌≤ℤ◌, ℕ, ◌+◌, ℤ, pos, neg_ℤ, List, Bool, false, ◌&&◌, not, nat_lt, nat_le, ◌==◌, if◌then◌else◌, replicate, slice_index, slice_index_or, slice_set}
 use Rattle.std.specs.Ordering.{int_eq}
 use Rattle.sal_base.specs.declared.kinds.Vector.{Vector}
 use Rattle.sal_macroblock.specs.declared.mode.RefKind.{RefKind}
@@ -56,16 +56,16 @@ bias_of b Alt = b.alt
 abbrev pub differ : Bool → Bool → Bool
 differ a b = if a then not b else b
 
--- turned round where the sign biases differ
-abbrev pub turned : Bias → RefKind → Motion → Motion
-turned b r v = if differ (bias_of b r) b.own then (neg_ℤ v.0, neg_ℤ v.1) else v
+-- negated by sign bias where the sign biases differ
+abbrev pub negated : Bias → RefKind → Motion → Motion
+negated b r v = if differ (bias_of b r) b.own then (neg_ℤ v.0, neg_ℤ v.1) else v
 
 -- one neighbour with its weight
 unfoldable pub noted : Bias → MbMode → ℕ → Slots → Slots
 noted b m weight s =
     if is_intra m.reference then s
     else (if equal (motion_of (own_vector m)) still then counted 0 weight s
-    else put_motion (turned b m.reference (motion_of (own_vector m))) weight s)
+    else put_motion (negated b m.reference (motion_of (own_vector m))) weight s)
 
 -- a third vector that equals the first counts for it
 abbrev pub joined : Slots → Slots
@@ -99,3 +99,27 @@ near_from bounds s =
 unfoldable pub near_of : MbMode → MbMode → MbMode → Bias → Bounds → Near
 near_of above left corner b bounds =
     near_from bounds (ordered (with_splits above left corner (joined (noted b corner 1 (noted b left 2 (noted b above 2 no_slots))))))
+
+-- a neighbour's vector, negated by sign bias or not
+abbrev pub IsNeighbours : MbMode → Motion → Type 0
+IsNeighbours m v = (v ≡ motion_of (own_vector m)) ⊎ (v ≡ (neg_ℤ (own_vector m).row, neg_ℤ (own_vector m).column))
+
+-- what may be suggested: zero, or a neighbour's vector
+abbrev pub IsSuggested : MbMode → MbMode → MbMode → Motion → Type 0
+IsSuggested above left corner v = (v ≡ still) ⊎ (IsNeighbours above v ⊎ (IsNeighbours left v ⊎ IsNeighbours corner v))
+
+-- such a vector, cut off at the bounds
+abbrev pub IsCutOff : MbMode → MbMode → MbMode → Bounds → Vector → Type 0
+IsCutOff above left corner bounds x = (v : Motion) × (IsSuggested above left corner v × (x ≡ clamped_to bounds v))
+
+-- the least is not above the greatest
+pub record AreOrdered (b : Bounds) : Type 0 where
+  pub rows : b.least.row ≤ℤ b.greatest.row
+  pub columns : b.least.column ≤ℤ b.greatest.column
+
+-- a vector that lies in the bounds
+pub record IsInBounds (b : Bounds) (v : Vector) : Type 0 where
+  pub least_row : b.least.row ≤ℤ v.row
+  pub greatest_row : v.row ≤ℤ b.greatest.row
+  pub least_column : b.least.column ≤ℤ v.column
+  pub greatest_column : v.column ≤ℤ b.greatest.column

@@ -54,7 +54,7 @@ sub_vector_of ps best left above l =
 unfoldable pub sub_vector : List ℕ → Vector → Vector → Vector → Syntax Vector
 sub_vector ps best left above = leaf sub_vector_entries (slice_index_or sub_vector_probabilities_of (sub_context left above) []) >>= λ l. sub_vector_of ps best left above l
 
--- the vectors of n more parts from this one on; vectors of blocks in a neighbour are its own, not turned round
+-- the vectors of n more parts from this one on; vectors of blocks in a neighbour are its own, not negated by sign bias
 unfoldable pub parts : List ℕ → Around → Vector → ℕ → ℕ → ℕ → List Vector → Syntax (List Vector)
 parts ps a best partition part zero vs = Done vs
 parts ps a best partition part (suc n) vs =

@@ -14,11 +14,11 @@ pub struct Bounds {
 /// The sign biases of a frame, and that of this macroblock's reference.
 #[derive(Clone, Copy, Debug, PartialEq, Eq)]
 pub struct Bias {
-    /// Whether vectors on golden are turned round (section 9.7).
+    /// The sign bias of golden (section 9.7).
     pub golden: bool,
-    /// Whether vectors on alt are turned round (section 9.7).
+    /// The sign bias of alt (section 9.7).
     pub alt: bool,
-    /// Whether vectors on the macroblock's own reference are turned round; others are compared with it.
+    /// The sign bias of the macroblock's own reference; the vector of a neighbour is negated where that of its reference differs.
     pub own: bool,
 }
 

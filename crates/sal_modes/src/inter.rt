@@ -3,11 +3,11 @@
 ghost use Rattle.std.specs.Prelude.{◌≡◌, ◌<◌, ◌≤◌, [], All, false, replicate, slice_index, slice_index_or};
 ghost use Rattle.sal_bool.specs.Syntax.{run, one, when};
 ghost use Rattle.sal_tables.specs.Tables.{vector_mode_probabilities_of};
-ghost use Rattle.sal_macroblock.specs.Macroblocks.{is_split, vector_at};
+ghost use Rattle.sal_macroblock.specs.Macroblocks.{is_split, vector_at, HasFittingModes};
 ghost use Rattle.sal_macroblock.specs.Sizes.{Within};
 ghost use Rattle.sal_modes.specs.Vectors.{AreNear};
 ghost use Rattle.sal_modes.specs.Near.{bias_of, near_of};
-ghost use Rattle.sal_modes.specs.Modes.{vector_mode, mode_row, vectors_of, reference_of, frame_bias, bias_for, inter_mode, HasFittingModes};
+ghost use Rattle.sal_modes.specs.Modes.{vector_mode, mode_row, vectors_of, reference_of, frame_bias, bias_for, inter_mode};
 
 use crate::around::{Bias, Near};
 use crate::near::near_vectors;

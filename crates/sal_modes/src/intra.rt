@@ -3,8 +3,7 @@
 ghost use Rattle.std.specs.Prelude.{◌≡◌, ◌<◌, ◌*◌, [], length, replicate};
 ghost use Rattle.std.specs.Prelude.{if◌then◌else◌, take, true, false};
 ghost use Rattle.sal_bool.specs.Syntax.{run, Done};
-ghost use Rattle.sal_macroblock.specs.Macroblocks.{is_b, is_intra, implied};
-ghost use Rattle.sal_modes.specs.Modes.{HasFittingModes};
+ghost use Rattle.sal_macroblock.specs.Macroblocks.{is_b, is_intra, implied, HasFittingModes};
 ghost use Rattle.sal_modes.specs.IntraModes.{whole_mode, sub_mode, sub_number, sub_row, sub_probabilities, sub_modes, y_mode, chroma_mode, intra_mode};
 
 use crate::neighbours::Neighbours;

@@ -4,6 +4,7 @@
 mod around;
 mod inter;
 mod intra;
+mod laws;
 mod near;
 mod neighbours;
 mod read;
@@ -12,6 +13,7 @@ mod split;
 mod vectors;
 
 pub use around::{Bias, Bounds, Near};
+pub use laws::{near_vectors_are_neighbours, near_vectors_lie_in_bounds};
 pub use near::near_vectors;
 pub use read::read_mb;
 pub use row::Row;

@@ -4,7 +4,7 @@ ghost use Rattle.std.specs.Prelude.{◌≡◌, ◌+◌, ◌-◌, ◌<◌, ◌≤
 ghost use Rattle.std.specs.Int.{w16};
 ghost use Rattle.sal_macroblock.specs.Macroblocks.{is_intra, is_split, own_vector};
 ghost use Rattle.sal_modes.specs.Vectors.{between};
-ghost use Rattle.sal_modes.specs.Near.{equal, motion_of, bias_of, turned, counted, put_motion, noted, joined, with_splits, split_weight, ordered, best, clamped_to, near_from, near_of};
+ghost use Rattle.sal_modes.specs.Near.{equal, motion_of, bias_of, negated, counted, put_motion, noted, joined, with_splits, split_weight, ordered, best, clamped_to, near_from, near_of};
 
 use crate::around::{Bias, Bounds, Near};
 use sal_base::{Vector, YMode};
@@ -59,10 +59,10 @@ fn weight_of(mode: &MbMode, weight: u8) -> u8
     if let YMode::SPLIT = mode.y { weight } else { 0 }
 }
 
-fn turned(bias: &Bias, kind: RefKind, motion: (i32, i32)) -> (i32, i32)
+fn negated(bias: &Bias, kind: RefKind, motion: (i32, i32)) -> (i32, i32)
     requires row { FitsSigned w16 motion.0 }
     requires column { FitsSigned w16 motion.1 }
-    ensures { result ≡ turned bias.now kind motion }
+    ensures { result ≡ negated bias.now kind motion }
 {
     if bias_of(bias, kind) != bias.own {
         (-motion.0, -motion.1)
@@ -112,7 +112,7 @@ fn noted(slots: Slots, bias: &Bias, mode: &MbMode, weight: u8) -> Slots
     if equal(motion, (0, 0)) {
         counted(slots, 0, weight)
     } else {
-        put_motion(slots, turned(bias, mode.reference, motion), weight)
+        put_motion(slots, negated(bias, mode.reference, motion), weight)
     }
 }
 

@@ -4,11 +4,11 @@ ghost use Rattle.std.specs.Prelude.{◌≡◌, ◌<◌, ◌≤◌, ℕ, List, tr
 ghost use Rattle.sal_bool.specs.Bits.{Interval};
 ghost use Rattle.sal_bool.specs.Reading.{StandsFor};
 ghost use Rattle.sal_bool.specs.Syntax.{run, read, when, leaf};
-ghost use Rattle.sal_macroblock.specs.Macroblocks.{is_intra};
+ghost use Rattle.sal_macroblock.specs.Macroblocks.{is_intra, HasFittingModes};
 ghost use Rattle.sal_tables.specs.Trees.{segment_entries};
 ghost use Rattle.sal_modes.specs.Vectors.{AreNear};
 ghost use Rattle.sal_modes.specs.IntraModes.{intra_mode};
-ghost use Rattle.sal_modes.specs.Modes.{inter_mode, mb_mode, HasFittingModes};
+ghost use Rattle.sal_modes.specs.Modes.{inter_mode, mb_mode};
 ghost use Rattle.sal_modes.specs.Rows.{around, with_mb};
 
 use crate::inter::{bit_when, read_inter};

@@ -187,7 +187,7 @@ const FRAMES: [Frame; 2] = [
     ),
 ];
 
-/// A header with segments, skipped macroblocks and golden turned round in inter frames.
+/// A header with segments, skipped macroblocks and golden negated by sign bias in inter frames.
 fn header(key: bool) -> Header {
     Header {
         key,

@@ -115,6 +115,13 @@ impl State {
         self.references.as_ref()
     }
 
+    /// What holds of each state. It does nothing: it lends that to a proof.
+    pub fn is_state(&self)
+        ensures { IsState self.now }
+    {
+        let _kept = &self.kept;
+    }
+
     /// SHA-256 over the size, the kept data and the references' digests; zeros before the first key frame.
     #[tactic(auto, unfolding(crate::specs::Digest::digest_of))]
     pub fn digest(&self) -> [u8; 32]

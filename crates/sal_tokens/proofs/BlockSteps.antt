@@ -2,11 +2,11 @@
 use Rattle.std.proofs.Common.{◌≡◌, ℕ, suc, zero, ◌+◌, ◌<◌, ◌≤◌, ◌∙◌, ◌-◌, ◌==◌, ℤ, pos, replicate, if◌then◌else◌, List, [], ◌∷◌, Bool, true, false, ◌&&◌, ◌||◌, length, refl, sym, ap, arith, get_or, drop, drop-cons, add-one, slice_set}
 use Rattle.std.proofs.lemmas.Bool.{ltb-true}
 use Rattle.std.proofs.lemmas.List.{drop_all, get_or-replicate, set-get_or}
-use Rattle.sal_macroblock.specs.Blocks.{no_levels}
+use Rattle.sal_macroblock.specs.Blocks.{no_coefficients}
 use Rattle.sal_bool.specs.Reading.{Reading}
 use Rattle.sal_bool.specs.Syntax.{Done, run, bit_of}
 use Rattle.sal_bool.proofs.Meaning.{run_then, run_on, run_done}
-use Rattle.sal_tokens.specs.Levels.{first_position, levels, filled_block, is_some_level, block}
+use Rattle.sal_tokens.specs.Coefficients.{first_position, coefficients, filled_block, is_some_coefficient, block}
 use Rattle.sal_tokens.specs.Blocks.{Tokens, tokens, is_set, context, with_block, blocks, are_places}
 use Rattle.sal_tokens.specs.declared.places.Place.{Place}
 
@@ -18,26 +18,26 @@ blocks_step cs ps qs p t b r r' end e h all =
     sym (ap (λ xs. run (blocks cs xs t) r) e ∙ run_on (block cs p.kind (context t p)) _ r b r' h) ∙ all
 
 -- the same, with what the calls of a loop's body say
-pub block_read : (cs : List ℕ) (ps : List Place) (i : ℕ) (d : Place) (levels levels' : List (List ℤ)) (some b : Bool) (above above' left left' : List Bool) (x y : ℕ) (zs : List ℤ) (r r' : Reading) (end : Tokens × Reading)
+pub block_read : (cs : List ℕ) (ps : List Place) (i : ℕ) (d : Place) (coefficients coefficients' : List (List ℤ)) (has_coefficients b : Bool) (above above' left left' : List Bool) (x y : ℕ) (zs : List ℤ) (r r' : Reading) (end : Tokens × Reading)
     → i < length ps
     → x ≡ bit_of (is_set above (get_or ps i d).above)
     → y ≡ bit_of (is_set left (get_or ps i d).left)
     → run (block cs (get_or ps i d).kind (x + y)) r ≡ ((zs, b), r')
-    → levels' ≡ slice_set levels (get_or ps i d).index zs
+    → coefficients' ≡ slice_set coefficients (get_or ps i d).index zs
     → above' ≡ slice_set above (get_or ps i d).above b
     → left' ≡ slice_set left (get_or ps i d).left b
-    → run (blocks cs (drop i ps) (tokens levels some above left)) r ≡ end
-    → run (blocks cs (drop (i + 1) ps) (tokens levels' (some || b) above' left')) r' ≡ end
-block_read cs ps i d levels levels' some b above above' left left' x y zs r r' end lt ex ey h el ea ef all =
+    → run (blocks cs (drop i ps) (tokens coefficients has_coefficients above left)) r ≡ end
+    → run (blocks cs (drop (i + 1) ps) (tokens coefficients' (has_coefficients || b) above' left')) r' ≡ end
+block_read cs ps i d coefficients coefficients' has_coefficients b above above' left left' x y zs r r' end lt ex ey h el ea ef all =
     let p : Place = get_or ps i d in
-    let t : Tokens = tokens levels some above left in
+    let t : Tokens = tokens coefficients has_coefficients above left in
     let pair : List ℤ × Bool = (zs, b) in
     let e : drop i ps ≡ p ∷ drop (i + 1) ps = rw add-one (drop-cons ps i d lt) in
     let same : context t p ≡ x + y = ap (λ n. n + bit_of (is_set left p.left)) (sym ex) ∙ ap (λ n. x + n) (sym ey) in
     let called : run (block cs p.kind (context t p)) r ≡ (pair, r') = ap (λ n. run (block cs p.kind n) r) same ∙ h in
     let more : run (blocks cs (drop (i + 1) ps) (with_block t p pair)) r' ≡ end = blocks_step cs (drop i ps) (drop (i + 1) ps) p t pair r r' end e called all in
-    let after : tokens levels' (some || b) above' left' ≡ with_block t p pair =
-    ap (λ zs'. tokens zs' (some || b) above' left') el ∙ (ap (λ bs. tokens (slice_set levels p.index zs) (some || b) bs left') ea ∙ ap (λ bs. tokens (slice_set levels p.index zs) (some || b) (slice_set above p.above b) bs) ef) in
+    let after : tokens coefficients' (has_coefficients || b) above' left' ≡ with_block t p pair =
+    ap (λ zs'. tokens zs' (has_coefficients || b) above' left') el ∙ (ap (λ bs. tokens (slice_set coefficients p.index zs) (has_coefficients || b) bs left') ea ∙ ap (λ bs. tokens (slice_set coefficients p.index zs) (has_coefficients || b) (slice_set above p.above b) bs) ef) in
     ap (λ t'. run (blocks cs (drop (i + 1) ps) t') r') after ∙ more
 
 -- all are read
@@ -69,35 +69,35 @@ place_at (p ∷ ps) zero d h lt =
     record { index = ltb-true _ _ k.0; kind = omega arith; above = ltb-true _ _ g.1; left = ltb-true _ _ f.1 }
 place_at (p ∷ ps) (suc i) d h lt = place_at ps i d (both _ _ h).1 (omega arith)
 
-none_filled : (first : ℕ) (b : Bool) (ls : List ℤ) → first ≡ (if b then 1 else 0) → is_some_level ls ≡ false → filled_block first ls ≡ replicate 16 (pos 0)
+none_filled : (first : ℕ) (b : Bool) (ls : List ℤ) → first ≡ (if b then 1 else 0) → is_some_coefficient ls ≡ false → filled_block first ls ≡ replicate 16 (pos 0)
 none_filled first true [] e h = ap (λ (n : ℕ). filled_block n []) e
 none_filled first false [] e h = ap (λ (n : ℕ). filled_block n []) e
 none_filled first b (z ∷ zs) e h = cc
 
--- a block whose first token is the end has no levels
+-- a block whose first token is the end has no coefficients
 none_read : (cs : List ℕ) (kind c : ℕ) (r : Reading) (zs : List ℤ) (b : Bool) (r' : Reading) → run (block cs kind c) r ≡ ((zs, b), r') → b ≡ false → zs ≡ replicate 16 (pos 0)
 unfolding block
 none_read cs kind c r zs b r' h e =
     let first : ℕ = first_position kind in
-    let read = levels cs kind (16 - first) c false in
+    let read = coefficients cs kind (16 - first) c false in
     let ls : List ℤ = (run read r).0 in
-    let done : run (block cs kind c) r ≡ ((filled_block first ls, is_some_level ls), (run read r).1) = run_then read (λ us. Done (filled_block first us, is_some_level us)) r ∙ run_done (filled_block first ls, is_some_level ls) (run read r).1 in
-    let same : ((zs, b), r') ≡ ((filled_block first ls, is_some_level ls), (run read r).1) = sym h ∙ done in
-    let some : is_some_level ls ≡ false = sym (ap (λ (y : (List ℤ × Bool) × Reading). y.0.1) same) ∙ e in
-    ap (λ (y : (List ℤ × Bool) × Reading). y.0.0) same ∙ none_filled first (kind == 0) ls refl some
+    let done : run (block cs kind c) r ≡ ((filled_block first ls, is_some_coefficient ls), (run read r).1) = run_then read (λ us. Done (filled_block first us, is_some_coefficient us)) r ∙ run_done (filled_block first ls, is_some_coefficient ls) (run read r).1 in
+    let same : ((zs, b), r') ≡ ((filled_block first ls, is_some_coefficient ls), (run read r).1) = sym h ∙ done in
+    let has_coefficients : is_some_coefficient ls ≡ false = sym (ap (λ (y : (List ℤ × Bool) × Reading). y.0.1) same) ∙ e in
+    ap (λ (y : (List ℤ × Bool) × Reading). y.0.0) same ∙ none_filled first (kind == 0) ls refl has_coefficients
 
 neither : (a b : Bool) → (a || b) ≡ false → (a ≡ false) × (b ≡ false)
 neither true b h = cc
 neither false b h = (refl, h)
 
--- where all blocks so far begin with the end there are no levels
-pub none_more : (cs : List ℕ) (kind c : ℕ) (r r' : Reading) (levels levels' : List (List ℤ)) (zs : List ℤ) (some b : Bool) (i : ℕ) → i < 25 → (some || b) ≡ false
-    → (some ≡ false → levels ≡ no_levels) → levels' ≡ slice_set levels i zs → run (block cs kind c) r ≡ ((zs, b), r') → levels' ≡ no_levels
-none_more cs kind c r r' levels levels' zs some b i lt e none put h =
-    let both_none = neither some b e in
+-- where all blocks so far begin with the end there are no coefficients
+pub none_more : (cs : List ℕ) (kind c : ℕ) (r r' : Reading) (coefficients coefficients' : List (List ℤ)) (zs : List ℤ) (has_coefficients b : Bool) (i : ℕ) → i < 25 → (has_coefficients || b) ≡ false
+    → (has_coefficients ≡ false → coefficients ≡ no_coefficients) → coefficients' ≡ slice_set coefficients i zs → run (block cs kind c) r ≡ ((zs, b), r') → coefficients' ≡ no_coefficients
+none_more cs kind c r r' coefficients coefficients' zs has_coefficients b i lt e none put h =
+    let both_none = neither has_coefficients b e in
     let zeros : List ℤ = replicate 16 (pos 0) in
-    let here : get_or no_levels i [] ≡ zeros = get_or-replicate 25 i zeros [] lt in
+    let here : get_or no_coefficients i [] ≡ zeros = get_or-replicate 25 i zeros [] lt in
     put
     ∙ (ap (λ (ls : List (List ℤ)). slice_set ls i zs) (none both_none.0)
-    ∙ (ap (λ (ys : List ℤ). slice_set no_levels i ys) (none_read cs kind c r zs b r' h both_none.1 ∙ sym here)
-    ∙ set-get_or no_levels i []))
+    ∙ (ap (λ (ys : List ℤ). slice_set no_coefficients i ys) (none_read cs kind c r zs b r' h both_none.1 ∙ sym here)
+    ∙ set-get_or no_coefficients i []))

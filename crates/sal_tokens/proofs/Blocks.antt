@@ -1,4 +1,4 @@
--- The levels of a block, step by step, by a decoder's numbers.
+-- The coefficients of a block, step by step, by a decoder's numbers.
 use Rattle.std.proofs.Common.{◌≡◌, ℕ, suc, zero, ◌+◌, ◌-◌, ◌≤◌, ◌<◌, ◌∙◌, ℤ, pos, List, [], ◌∷◌, ◌++◌, Bool, true, false, not, if◌then◌else◌, nat_lt, ◌==◌, min, length, replicate, set, refl, sym, ap, arith, subst, slice_index, slice_index_or, append_assoc, length-append, add-zero, lit≤}
 use Rattle.std.proofs.lemmas.Bool.{lt-ltb, le-ltb, ne_eqb}
 use Rattle.std.proofs.lemmas.List.{length-replicate}
@@ -9,7 +9,7 @@ use Rattle.sal_tables.specs.Tables.{category_bases_of, category_bits_of}
 use Rattle.sal_tables.specs.Trees.{token_entries}
 use Rattle.sal_tables.specs.Shape.{leaves_below}
 use Rattle.sal_tables.specs.declared.tree.Entry.{Entry}
-use Rattle.sal_tokens.specs.Levels.{token_row, token_size, levels, block, first_position, filled_block, is_some_level, start_of}
+use Rattle.sal_tokens.specs.Coefficients.{token_row, token_size, coefficients, block, first_position, filled_block, is_some_coefficient, start_of}
 
 pub size_plain : (t : ℕ) (r : Reading) → t < 6 → run (token_size t) r ≡ (t - 1, r)
 unfolding token_size
@@ -19,35 +19,35 @@ pub size_category : (t x : ℕ) (r r' : Reading) → 6 ≤ t → run (number (sl
 unfolding token_size
 size_category t x r r' le h = rw (le-ltb t 6 le) (run_on (number (slice_index_or category_bits_of (t - 6) []) 0) _ r x r' h ∙ run_done _ _)
 
-pub levels_none : (cs : List ℕ) (kind n context : ℕ) (after : Bool) (r : Reading) → n ≡ 0 → run (levels cs kind n context after) r ≡ ([], r)
-unfolding levels
-levels_none cs kind n context after r e = rw e (run_done _ _)
+pub coefficients_none : (cs : List ℕ) (kind n context : ℕ) (after : Bool) (r : Reading) → n ≡ 0 → run (coefficients cs kind n context after) r ≡ ([], r)
+unfolding coefficients
+coefficients_none cs kind n context after r e = rw e (run_done _ _)
 
-pub levels_end : (cs : List ℕ) (kind n m context : ℕ) (after : Bool) (r r' : Reading) → n ≡ suc m
-    → run (leaf_from token_entries (token_row cs kind (15 - m) context) (start_of after)) r ≡ (0, r') → run (levels cs kind n context after) r ≡ ([], r')
-unfolding levels
-levels_end cs kind n m context after r r' e h = rw e (run_on (leaf_from token_entries (token_row cs kind (15 - m) context) (start_of after)) _ r 0 r' h ∙ run_done _ _)
+pub coefficients_end : (cs : List ℕ) (kind n m context : ℕ) (after : Bool) (r r' : Reading) → n ≡ suc m
+    → run (leaf_from token_entries (token_row cs kind (15 - m) context) (start_of after)) r ≡ (0, r') → run (coefficients cs kind n context after) r ≡ ([], r')
+unfolding coefficients
+coefficients_end cs kind n m context after r r' e h = rw e (run_on (leaf_from token_entries (token_row cs kind (15 - m) context) (start_of after)) _ r 0 r' h ∙ run_done _ _)
 
 neq : (t : ℕ) → 0 < t → (t == 0) ≡ false
 neq t lt = ne_eqb t 0 (λ e. omega arith)
 
-pub levels_more : (cs : List ℕ) (kind n m context : ℕ) (after : Bool) (t size : ℕ) (negative : Bool) (zs : List ℤ) (r r1 r2 r3 r4 : Reading) → n ≡ suc m → 0 < t
+pub coefficients_more : (cs : List ℕ) (kind n m context : ℕ) (after : Bool) (t size : ℕ) (negative : Bool) (zs : List ℤ) (r r1 r2 r3 r4 : Reading) → n ≡ suc m → 0 < t
     → run (leaf_from token_entries (token_row cs kind (15 - m) context) (start_of after)) r ≡ (t, r1) → run (token_size t) r1 ≡ (size, r2) → run (when (not (size == 0)) flag false) r2 ≡ (negative, r3)
-    → run (levels cs kind m (min 2 size) (size == 0)) r3 ≡ (zs, r4) → run (levels cs kind n context after) r ≡ (signed size negative ∷ zs, r4)
-unfolding levels
-levels_more cs kind n m context after t size negative zs r r1 r2 r3 r4 e lt h1 h2 h3 h4 =
+    → run (coefficients cs kind m (min 2 size) (size == 0)) r3 ≡ (zs, r4) → run (coefficients cs kind n context after) r ≡ (signed size negative ∷ zs, r4)
+unfolding coefficients
+coefficients_more cs kind n m context after t size negative zs r r1 r2 r3 r4 e lt h1 h2 h3 h4 =
     rw e (run_on (leaf_from token_entries (token_row cs kind (15 - m) context) (start_of after)) _ r t r1 h1
     ∙ rw (neq t lt) (run_on (token_size t) _ r1 size r2 h2
     ∙ (run_on (when (not (size == 0)) flag false) _ r2 negative r3 h3
-    ∙ (run_on (levels cs kind m (min 2 size) (size == 0)) _ r3 zs r4 h4
+    ∙ (run_on (coefficients cs kind m (min 2 size) (size == 0)) _ r3 zs r4 h4
     ∙ run_done _ _))))
 
--- so far: these levels were read, the block has them, and what comes is read from here
+-- so far: these coefficients were read, the block has them, and what comes is read from here
 pub record SoFar (cs : List ℕ) (kind context position c : ℕ) (after : Bool) (r0 r : Reading) (xs : List ℤ) : Type 0 where
   pub zs : List ℤ
   pub place : position ≡ first_position kind + length zs
   pub all : xs ≡ filled_block (first_position kind) zs
-  pub reads : (more : List ℤ) (r' : Reading) → run (levels cs kind (16 - position) c after) r ≡ (more, r') → run (levels cs kind (16 - first_position kind) context false) r0 ≡ (zs ++ more, r')
+  pub reads : (more : List ℤ) (r' : Reading) → run (coefficients cs kind (16 - position) c after) r ≡ (more, r') → run (coefficients cs kind (16 - first_position kind) context false) r0 ≡ (zs ++ more, r')
 
 append_nil : (zs : List ℤ) → zs ++ [] ≡ zs
 append_nil [] = refl
@@ -61,7 +61,7 @@ set_next (b ∷ bs) k v lt = ap (λ ys. b ∷ ys) (set_next bs k v lt)
 regroup : (x y z : List ℤ) (v : ℤ) → (x ++ (y ++ (v ∷ []))) ++ z ≡ (x ++ y) ++ (v ∷ z)
 regroup x y z v = simp append_assoc
 
--- one more level in the block
+-- one more coefficient in the block
 pub filled_more : (first : ℕ) (zs : List ℤ) (v : ℤ) → first + length zs < 16 → set (filled_block first zs) (first + length zs) v ≡ filled_block first (zs ++ v ∷ [])
 filled_more first zs v lt =
     let front : List ℤ = replicate first (pos 0) ++ zs in
@@ -95,30 +95,30 @@ so_far_more cs kind context position c after r0 r xs t size negative r1 r2 r3 lt
       place = omega (arith, place, length-append s.zs (v ∷ []));
       all = ap (λ ys. set ys position v) s.all ∙ (ap (λ p. set (filled_block first s.zs) p v) place ∙ filled_more first s.zs v (omega (arith, place)));
       reads = λ more r' h4.
-          s.reads (v ∷ more) r' (levels_more cs kind (16 - position) (16 - (position + 1)) c after t size negative more r r1 r2 r3 r' (omega arith) pos' h1' h2 h3 h4)
+          s.reads (v ∷ more) r' (coefficients_more cs kind (16 - position) (16 - (position + 1)) c after t size negative more r r1 r2 r3 r' (omega arith) pos' h1' h2 h3 h4)
           ∙ ap (λ ys. let x : List ℤ × Reading = (ys, r') in x) (sym (append_assoc s.zs (v ∷ []) more));
     }
 
 abbrev pub Found : List ℕ → ℕ → ℕ → Reading → List ℤ → Bool → Reading → Type 0
-Found cs kind context r0 xs some r = run (block cs kind context) r0 ≡ ((let x : List ℤ × Bool = (xs, some) in x), r)
+Found cs kind context r0 xs has_coefficients r = run (block cs kind context) r0 ≡ ((let x : List ℤ × Bool = (xs, has_coefficients) in x), r)
 
-some_levels : (first : ℕ) (zs : List ℤ) → is_some_level zs ≡ nat_lt first (first + length zs)
-some_levels first [] = sym (le-ltb first (first + 0) (omega arith))
-some_levels first (z ∷ zs) = sym (lt-ltb first (first + length (z ∷ zs)) (omega arith))
+some_coefficients : (first : ℕ) (zs : List ℤ) → is_some_coefficient zs ≡ nat_lt first (first + length zs)
+some_coefficients first [] = sym (le-ltb first (first + 0) (omega arith))
+some_coefficients first (z ∷ zs) = sym (lt-ltb first (first + length (z ∷ zs)) (omega arith))
 
--- the block that these levels make
+-- the block that these coefficients make
 found_from : (cs : List ℕ) (kind context position : ℕ) (r0 r : Reading) (xs zs : List ℤ) → position ≡ first_position kind + length zs → xs ≡ filled_block (first_position kind) zs
-    → run (levels cs kind (16 - first_position kind) context false) r0 ≡ (zs, r) → Found cs kind context r0 xs (nat_lt (first_position kind) position) r
+    → run (coefficients cs kind (16 - first_position kind) context false) r0 ≡ (zs, r) → Found cs kind context r0 xs (nat_lt (first_position kind) position) r
 unfolding block
 found_from cs kind context position r0 r xs zs place all h =
     let first : ℕ = first_position kind in
-    let some : is_some_level zs ≡ nat_lt first position = some_levels first zs ∙ ap (λ p. nat_lt first p) (sym place) in
-    run_on (levels cs kind (16 - first) context false) (λ ls. Done (filled_block first ls, is_some_level ls)) r0 zs r h
+    let has_coefficients : is_some_coefficient zs ≡ nat_lt first position = some_coefficients first zs ∙ ap (λ p. nat_lt first p) (sym place) in
+    run_on (coefficients cs kind (16 - first) context false) (λ ls. Done (filled_block first ls, is_some_coefficient ls)) r0 zs r h
     ∙ (run_done _ r
-    ∙ (ap (λ ys. let y : List ℤ × Bool = (ys, is_some_level zs) in let x : (List ℤ × Bool) × Reading = (y, r) in x) (sym all)
-    ∙ ap (λ b. let y : List ℤ × Bool = (xs, b) in let x : (List ℤ × Bool) × Reading = (y, r) in x) some))
+    ∙ (ap (λ ys. let y : List ℤ × Bool = (ys, is_some_coefficient zs) in let x : (List ℤ × Bool) × Reading = (y, r) in x) (sym all)
+    ∙ ap (λ b. let y : List ℤ × Bool = (xs, b) in let x : (List ℤ × Bool) × Reading = (y, r) in x) has_coefficients))
 
-ended : (cs : List ℕ) (kind context position c : ℕ) (after : Bool) (r0 r : Reading) (xs : List ℤ) (r1 : Reading) → run (levels cs kind (16 - position) c after) r ≡ ([], r1)
+ended : (cs : List ℕ) (kind context position c : ℕ) (after : Bool) (r0 r : Reading) (xs : List ℤ) (r1 : Reading) → run (coefficients cs kind (16 - position) c after) r ≡ ([], r1)
     → SoFar cs kind context position c after r0 r xs → Found cs kind context r0 xs (nat_lt (first_position kind) position) r1
 ended cs kind context position c after r0 r xs r1 h s =
     found_from cs kind context position r0 r1 xs s.zs s.place s.all (s.reads [] r1 h ∙ ap (λ ys. let x : List ℤ × Reading = (ys, r1) in x) (append_nil s.zs))
@@ -128,7 +128,7 @@ pub so_far_ends : (cs : List ℕ) (kind context position c : ℕ) (after : Bool)
 so_far_ends cs kind context position c after r0 r xs r1 lt h s =
     let here : 15 - (16 - (position + 1)) ≡ position = omega arith in
     let h' : run (leaf_from token_entries (token_row cs kind (15 - (16 - (position + 1))) c) (start_of after)) r ≡ (0, r1) = ap (λ p. run (leaf_from token_entries (token_row cs kind p c) (start_of after)) r) here ∙ h in
-    ended cs kind context position c after r0 r xs r1 (levels_end cs kind (16 - position) (16 - (position + 1)) c after r r1 (omega arith) h') s
+    ended cs kind context position c after r0 r xs r1 (coefficients_end cs kind (16 - position) (16 - (position + 1)) c after r r1 (omega arith) h') s
 
 first_below : (kind position : ℕ) → 16 ≤ position → first_position kind < position
 first_below kind position le = below (kind == 0)
@@ -139,9 +139,9 @@ first_below kind position le = below (kind == 0)
 
 pub so_far_full : (cs : List ℕ) (kind context position c : ℕ) (after : Bool) (r0 r : Reading) (xs : List ℤ) → 16 ≤ position → SoFar cs kind context position c after r0 r xs → Found cs kind context r0 xs true r
 so_far_full cs kind context position c after r0 r xs le s =
-    let some : nat_lt (first_position kind) position ≡ true = lt-ltb (first_position kind) position (first_below kind position le) in
+    let has_coefficients : nat_lt (first_position kind) position ≡ true = lt-ltb (first_position kind) position (first_below kind position le) in
     let P : Bool → Type 0 = λ b. Found cs kind context r0 xs b r in
-    subst P some (ended cs kind context position c after r0 r xs r (levels_none cs kind (16 - position) c after r (omega arith)) s)
+    subst P has_coefficients (ended cs kind context position c after r0 r xs r (coefficients_none cs kind (16 - position) c after r (omega arith)) s)
 
 pub token_leaves : (es : List Entry) → es ≡ token_entries → (leaves_below 12 es ≡ true) × (length es ≡ 22)
 unfolding token_entries

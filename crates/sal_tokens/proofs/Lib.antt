@@ -2,3 +2,4 @@ mod Examples
 mod BlockExamples
 pub mod Blocks
 pub mod BlockSteps
+pub mod TokenBits

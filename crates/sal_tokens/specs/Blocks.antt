@@ -2,8 +2,8 @@
 use Rattle.std.specs.Prelude.{ℕ, ◌+◌, ◌/◌, ◌%◌, ℤ, List, [], ◌∷◌, ◌++◌, Bool, true, false, ◌&&◌, ◌||◌, nat_lt, if◌then◌else◌, replicate, slice_index_or, slice_set}
 use Rattle.sal_base.specs.Samples.{listed}
 use Rattle.sal_bool.specs.Syntax.{Syntax, Done, ◌>>=◌, bit_of}
-use Rattle.sal_macroblock.specs.Blocks.{no_levels}
-use Rattle.sal_tokens.specs.Levels.{block}
+use Rattle.sal_macroblock.specs.Blocks.{no_coefficients}
+use Rattle.sal_tokens.specs.Coefficients.{block}
 use Rattle.sal_tokens.specs.declared.places.Place.{Place}
 
 abbrev pub place : ℕ → ℕ → ℕ → ℕ → Place
@@ -23,17 +23,17 @@ abbrev pub are_places : List Place → Bool
 are_places [] = true
 are_places (p ∷ ps) = nat_lt p.index 25 && nat_lt p.kind 4 && nat_lt p.above 9 && nat_lt p.left 9 && are_places ps
 
--- levels by block, whether some block's first token isn't the end, and the contexts that the blocks leave
+-- coefficients by block, whether some block's first token isn't the end, and the contexts that the blocks leave
 pub record Tokens : Type 0 where
-  pub levels : List (List ℤ)
-  pub some : Bool
+  pub coefficients : List (List ℤ)
+  pub has_coefficients : Bool
   pub above : List Bool
   pub left : List Bool
 
 abbrev pub tokens : List (List ℤ) → Bool → List Bool → List Bool → Tokens
-tokens levels some above left = record { levels = levels; some = some; above = above; left = left }
+tokens coefficients has_coefficients above left = record { coefficients = coefficients; has_coefficients = has_coefficients; above = above; left = left }
 
--- outside the picture no block has a level
+-- outside the picture no block has a coefficient
 abbrev pub no_contexts : List Bool
 no_contexts = replicate 9 false
 
@@ -46,16 +46,16 @@ context t p = bit_of (is_set t.above p.above) + bit_of (is_set t.left p.left)
 
 abbrev pub with_block : Tokens → Place → List ℤ × Bool → Tokens
 with_block t p b =
-    record { levels = slice_set t.levels p.index b.0; some = t.some || b.1; above = slice_set t.above p.above b.1; left = slice_set t.left p.left b.1 }
+    record { coefficients = slice_set t.coefficients p.index b.0; has_coefficients = t.has_coefficients || b.1; above = slice_set t.above p.above b.1; left = slice_set t.left p.left b.1 }
 
 unfoldable pub blocks : List ℕ → List Place → Tokens → Syntax Tokens
-blocks coefficients [] t = Done t
-blocks coefficients (p ∷ ps) t = block coefficients p.kind (context t p) >>= λ b. blocks coefficients ps (with_block t p b)
+blocks probabilities [] t = Done t
+blocks probabilities (p ∷ ps) t = block probabilities p.kind (context t p) >>= λ b. blocks probabilities ps (with_block t p b)
 
 -- a macroblock that isn't skipped; without Y2 the contexts of Y2 stay as they were
 unfoldable pub macroblock : List ℕ → Bool → List Bool → List Bool → Syntax Tokens
-macroblock coefficients has_y2 above left =
-    blocks coefficients (places has_y2) (tokens no_levels false above left)
+macroblock probabilities has_y2 above left =
+    blocks probabilities (places has_y2) (tokens no_coefficients false above left)
 
 -- a skipped macroblock clears contexts, that of Y2 only where it has Y2
 abbrev pub cleared : Bool → List Bool → List Bool
@@ -63,4 +63,4 @@ cleared has_y2 cs = if has_y2 then no_contexts else replicate 8 false ++ is_set 
 
 -- a skipped macroblock has no tokens
 abbrev pub skipped : Bool → List Bool → List Bool → Tokens
-skipped has_y2 above left = record { levels = no_levels; some = false; above = cleared has_y2 above; left = cleared has_y2 left }
+skipped has_y2 above left = record { coefficients = no_coefficients; has_coefficients = false; above = cleared has_y2 above; left = cleared has_y2 left }

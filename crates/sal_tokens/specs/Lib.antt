@@ -1,2 +1,2 @@
-pub mod Levels
+pub mod Coefficients
 pub mod Blocks

@@ -25,11 +25,11 @@ impl Contexts {
         self.0[place as usize] as u8
     }
 
-    pub(crate) fn set(&mut self, place: u8, some: bool)
+    pub(crate) fn set(&mut self, place: u8, has_coefficients: bool)
         requires { place < 9 }
-        ensures { self.new.0 ≡ slice_set self.old.0 place some }
+        ensures { self.new.0 ≡ slice_set self.old.0 place has_coefficients }
     {
-        self.0[place as usize] = some;
+        self.0[place as usize] = has_coefficients;
     }
 
     // What a skipped macroblock leaves: without Y2 that of Y2 stays.

@@ -2,11 +2,11 @@
 
 use crate::{Contexts, read_block, read_macroblock, skip_macroblock};
 use sal_bool::Decoder;
-use sal_macroblock::{Block, Levels};
+use sal_macroblock::{Block, Coefficients};
 use sal_probs::Probs;
 use std::alloc::Global;
 
-/// A block's kind, context and bytes, its levels, and whether its first token isn't the end.
+/// A block's kind, context and bytes, its coefficients, and whether its first token isn't the end.
 type Row = (u8, u8, &'static [u8], [i32; 16], bool);
 
 const ROWS: [Row; 9] = [
@@ -66,7 +66,7 @@ const ROWS: [Row; 9] = [
         [-1, -2, 2, 0, 0, 2, 1, 0, 0, 0, 0, 0, 0, 0, 0, 0],
         true,
     ),
-    // The least or greatest level of each category, of either sign.
+    // The least or greatest coefficient of each category, of either sign.
     (
         1,
         0,
@@ -80,7 +80,7 @@ const ROWS: [Row; 9] = [
         ],
         true,
     ),
-    // The greatest level, after a zero and before three.
+    // The greatest coefficient, after a zero and before three.
     (
         1,
         0,
@@ -109,11 +109,11 @@ fn read(alloc: Global, kind: u8, context: u8, bytes: &[u8]) -> Option<(Block, bo
 }
 
 #[test]
-fn levels_of_blocks(rt: HostRuntime) {
-    for (kind, context, bytes, levels, some) in ROWS {
+fn coefficients_of_blocks(rt: HostRuntime) {
+    for (kind, context, bytes, coefficients, has_coefficients) in ROWS {
         assert_eq!(rt;
             read(rt.alloc(), kind, context, bytes),
-            Some((Block(levels), some)),
+            Some((Block(coefficients), has_coefficients)),
             "kind {kind}, context {context}"
         );
     }
@@ -124,12 +124,13 @@ fn past_the_end_are_zero_bytes(rt: HostRuntime) {
     for kind in 0..4u8 {
         assert_eq!(rt;
             read(rt.alloc(), kind, 0, &[]),
-            Some((Block([0; 16]), false))
+            Some((Block([0; 16]), false)),
+            "kind {kind}"
         );
     }
 }
 
-/// A macroblock's bytes, whether it has Y2, the contexts above and left, the first levels of its blocks, of which the others are 0,
+/// A macroblock's bytes, whether it has Y2, the contexts above and left, the first coefficients of its blocks, of which the others are 0,
 /// and the contexts that it leaves.
 type Whole = (
     &'static [u8],
@@ -227,44 +228,50 @@ const MACROBLOCKS: [Whole; 2] = [
     ),
 ];
 
-/// What is read of a macroblock at the default probabilities, or none for want of memory: whether some block has levels, the
-/// contexts above and left, and the levels.
-fn read_whole(alloc: Global, row: &Whole) -> Option<(bool, Contexts, Contexts, Levels)> {
+/// What is read of a macroblock at the default probabilities, or none for want of memory: whether some block has coefficients, the
+/// contexts above and left, and the coefficients.
+fn read_whole(alloc: Global, row: &Whole) -> Option<(bool, Contexts, Contexts, Coefficients)> {
     let (bytes, has_y2, before, _, _) = row;
     let probs = Probs::initial(alloc).ok()?;
     let mut above = Contexts(before[0]);
     let mut left = Contexts(before[1]);
-    let mut levels = Levels::none();
-    let some = read_macroblock(
+    let mut coefficients = Coefficients::none();
+    let has_coefficients = read_macroblock(
         &mut Decoder::new(bytes),
         &probs,
         *has_y2,
         &mut above,
         &mut left,
-        &mut levels,
+        &mut coefficients,
     );
-    Some((some, above, left, levels))
+    Some((has_coefficients, above, left, coefficients))
 }
 
-/// Whether a block has these first levels, and then zeros.
+/// Whether a block has these first coefficients, and then zeros.
 fn begins(block: &Block, first: &[i32]) -> bool {
-    block
-        .0
-        .iter()
-        .enumerate()
-        .all(|(i, level)| *level == first.get(i).copied().unwrap_or(0))
+    block.0.iter().enumerate().all(|(i, coefficient)| *coefficient
+        == first.get(i).copied().unwrap_or(0))
 }
 
 #[test]
-fn levels_of_macroblocks(rt: HostRuntime) {
+fn coefficients_of_macroblocks(rt: HostRuntime) {
     for row in MACROBLOCKS {
-        let Some((some, above, left, levels)) = read_whole(rt.alloc(), &row) else {
+        let Some((has_coefficients, above, left, coefficients)) = read_whole(rt.alloc(), &row)
+        else {
             panic!(rt; "no memory");
         };
-        assert!(rt; some);
-        assert_eq!(rt; (above, left), (Contexts(row.4[0]), Contexts(row.4[1])));
+        let y2 = row.1;
+        assert!(rt; has_coefficients, "Y2: {y2}");
+        assert_eq!(rt;
+            (above, left),
+            (Contexts(row.4[0]), Contexts(row.4[1])),
+            "Y2: {y2}"
+        );
         for (index, first) in row.3.iter().enumerate() {
-            assert!(rt; begins(levels.block(index), first), "block {index}");
+            assert!(rt;
+                begins(coefficients.block(index), first),
+                "Y2: {y2}, block {index}"
+            );
         }
     }
 }

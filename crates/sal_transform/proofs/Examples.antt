@@ -1,10 +1,10 @@
--- Transforms, dequantisation and steps, computed; the values are an independent program's.
+-- Transforms, dequantisation and factors, computed; the values are an independent program's.
 use Rattle.std.proofs.Common.{◌≡◌, ℤ, pos, negsuc, List, [], ◌∷◌, refl}
 use Rattle.sal_base.specs.Samples.{listed_from}
 use Rattle.sal_tables.specs.Tables.{zigzag_of, dc_steps_of, ac_steps_of}
 use Rattle.sal_transform.specs.Inverse.{inverse_of, out_0, out_1, out_2, out_3, scaled, rounded}
 use Rattle.sal_transform.specs.Hadamard.{inverse_y2_of, sum_0, sum_1, sum_2, sum_3, eighth}
-use Rattle.sal_transform.specs.Steps.{steps_of, dequantised}
+use Rattle.sal_transform.specs.Factors.{factors_of, dequantised}
 
 first : List ℤ
 first = negsuc 132 ∷ pos 0 ∷ pos 0 ∷ pos 0 ∷ pos 0 ∷ pos 0 ∷ pos 0 ∷ pos 0 ∷ pos 0 ∷ pos 0 ∷ pos 0 ∷ pos 0 ∷ pos 0 ∷ pos 0 ∷ pos 0 ∷ pos 0 ∷ []
@@ -52,30 +52,30 @@ dequantised_full_314_440 : dequantised full (pos 314) (pos 440) ≡ negsuc 14789
 unfolding full dequantised zigzag_of listed_from
 dequantised_full_314_440 = refl
 
-steps_0 : steps_of 0 (pos 0) (pos 0) (pos 0) (pos 0) (pos 0) ≡ record { y_dc = 4; y_ac = 4; y2_dc = 8; y2_ac = 8; uv_dc = 4; uv_ac = 4 }
-unfolding steps_of dc_steps_of ac_steps_of
-steps_0 = refl
+factors_0 : factors_of 0 (pos 0) (pos 0) (pos 0) (pos 0) (pos 0) ≡ record { y_dc = 4; y_ac = 4; y2_dc = 8; y2_ac = 8; uv_dc = 4; uv_ac = 4 }
+unfolding factors_of dc_steps_of ac_steps_of
+factors_0 = refl
 
-steps_127 : steps_of 127 (pos 0) (pos 0) (pos 0) (pos 0) (pos 0) ≡ record { y_dc = 157; y_ac = 284; y2_dc = 314; y2_ac = 440; uv_dc = 132; uv_ac = 284 }
-unfolding steps_of dc_steps_of ac_steps_of
-steps_127 = refl
+factors_127 : factors_of 127 (pos 0) (pos 0) (pos 0) (pos 0) (pos 0) ≡ record { y_dc = 157; y_ac = 284; y2_dc = 314; y2_ac = 440; uv_dc = 132; uv_ac = 284 }
+unfolding factors_of dc_steps_of ac_steps_of
+factors_127 = refl
 
-steps_60 : steps_of 60 (negsuc 14) (pos 15) (pos 7) (negsuc 2) (pos 12) ≡ record { y_dc = 41; y_ac = 70; y2_dc = 140; y2_ac = 130; uv_dc = 52; uv_ac = 94 }
-unfolding steps_of dc_steps_of ac_steps_of
-steps_60 = refl
+factors_60 : factors_of 60 (negsuc 14) (pos 15) (pos 7) (negsuc 2) (pos 12) ≡ record { y_dc = 41; y_ac = 70; y2_dc = 140; y2_ac = 130; uv_dc = 52; uv_ac = 94 }
+unfolding factors_of dc_steps_of ac_steps_of
+factors_60 = refl
 
-steps_3 : steps_of 3 (negsuc 14) (negsuc 14) (negsuc 14) (negsuc 14) (negsuc 14) ≡ record { y_dc = 4; y_ac = 7; y2_dc = 8; y2_ac = 8; uv_dc = 4; uv_ac = 4 }
-unfolding steps_of dc_steps_of ac_steps_of
-steps_3 = refl
+factors_3 : factors_of 3 (negsuc 14) (negsuc 14) (negsuc 14) (negsuc 14) (negsuc 14) ≡ record { y_dc = 4; y_ac = 7; y2_dc = 8; y2_ac = 8; uv_dc = 4; uv_ac = 4 }
+unfolding factors_of dc_steps_of ac_steps_of
+factors_3 = refl
 
-steps_120 : steps_of 120 (pos 15) (pos 15) (pos 15) (pos 15) (pos 15) ≡ record { y_dc = 157; y_ac = 249; y2_dc = 314; y2_ac = 440; uv_dc = 132; uv_ac = 284 }
-unfolding steps_of dc_steps_of ac_steps_of
-steps_120 = refl
+factors_120 : factors_of 120 (pos 15) (pos 15) (pos 15) (pos 15) (pos 15) ≡ record { y_dc = 157; y_ac = 249; y2_dc = 314; y2_ac = 440; uv_dc = 132; uv_ac = 284 }
+unfolding factors_of dc_steps_of ac_steps_of
+factors_120 = refl
 
-steps_116 : steps_of 116 (pos 0) (pos 0) (pos 0) (pos 0) (pos 0) ≡ record { y_dc = 130; y_ac = 229; y2_dc = 260; y2_ac = 354; uv_dc = 130; uv_ac = 229 }
-unfolding steps_of dc_steps_of ac_steps_of
-steps_116 = refl
+factors_116 : factors_of 116 (pos 0) (pos 0) (pos 0) (pos 0) (pos 0) ≡ record { y_dc = 130; y_ac = 229; y2_dc = 260; y2_ac = 354; uv_dc = 130; uv_ac = 229 }
+unfolding factors_of dc_steps_of ac_steps_of
+factors_116 = refl
 
-steps_117 : steps_of 117 (pos 0) (pos 0) (pos 0) (pos 0) (pos 0) ≡ record { y_dc = 132; y_ac = 234; y2_dc = 264; y2_ac = 362; uv_dc = 132; uv_ac = 234 }
-unfolding steps_of dc_steps_of ac_steps_of
-steps_117 = refl
+factors_117 : factors_of 117 (pos 0) (pos 0) (pos 0) (pos 0) (pos 0) ≡ record { y_dc = 132; y_ac = 234; y2_dc = 264; y2_ac = 362; uv_dc = 132; uv_ac = 234 }
+unfolding factors_of dc_steps_of ac_steps_of
+factors_117 = refl

@@ -47,7 +47,7 @@ wider n z le h = let low = h.0 in let high = h.1 in (omega (arith, ints), omega 
 product_of : (l s : ℤ) → Within 2114 l → Within 440 s → as_passed l *ℤ as_passed s ≡ l *ℤ s
 product_of l s hl hs = ap (λ (x : ℤ). x *ℤ as_passed s) (kept_20 l (wider 2114 l (omega arith) hl)) ∙ ap (λ (x : ℤ). l *ℤ x) (kept_20 s (wider 440 s (omega arith) hs))
 
--- a level times its step, as it is computed
+-- a coefficient times its factor, as it is computed
 pub product : (l s : ℤ) → Within 2114 l → Within 440 s → as_passed (as_passed l *ℤ as_passed s) ≡ l *ℤ s
 product l s hl hs = ap (λ (x : ℤ). as_passed x) (product_of l s hl hs) ∙ kept_20 _ (small_product l s hl hs)
 
@@ -55,11 +55,11 @@ pub product_small : (l s : ℤ) → Within 2114 l → Within 440 s → Within 10
 product_small l s hl hs = subst (Within 1048576) (sym (product l s hl hs)) (small_product l s hl hs)
 
 -- the same of a result
-pub stepped_is : (z l s : ℤ) → z ≡ as_passed l *ℤ as_passed s → Within 1048576 z → Within 2114 l → Within 440 s → as_passed z ≡ l *ℤ s
-stepped_is z l s e h hl hs = kept_20 z h ∙ (e ∙ product_of l s hl hs)
+pub dequantise_is : (z l s : ℤ) → z ≡ as_passed l *ℤ as_passed s → Within 1048576 z → Within 2114 l → Within 440 s → as_passed z ≡ l *ℤ s
+dequantise_is z l s e h hl hs = kept_20 z h ∙ (e ∙ product_of l s hl hs)
 
-pub stepped_small : (z : ℤ) → Within 1048576 z → Within 1048576 (as_passed z)
-stepped_small z h = subst (Within 1048576) (sym (kept_20 z h)) h
+pub dequantise_small : (z : ℤ) → Within 1048576 z → Within 1048576 (as_passed z)
+dequantise_small z h = subst (Within 1048576) (sym (kept_20 z h)) h
 
 pub entry : (z v s : ℤ) → z ≡ v *ℤ as_passed s → Within 1048576 z → Within 440 s → as_passed z ≡ v *ℤ s
 entry z v s e h hs = kept_20 z h ∙ (e ∙ ap (λ (x : ℤ). v *ℤ x) (kept_20 s (wider 440 s (omega arith) hs)))

@@ -1,4 +1,6 @@
+pub mod Factors
 pub mod Hadamard
 pub mod Inverse
 pub mod Residue
-pub mod Steps
+pub mod Residues
+pub mod Small

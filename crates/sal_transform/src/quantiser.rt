@@ -1,36 +1,36 @@
-//! Values out of levels (RFC 6386, section 14.1).
+//! Values out of coefficients (RFC 6386, section 14.1).
 
 ghost use Rattle.std.specs.Prelude.{◌≡◌, ℤ, pos, ◌*ℤ◌, ◌≤ℤ◌, ◌<◌, All, slice_index_or};
 ghost use Rattle.sal_macroblock.specs.Sizes.{Within};
-ghost use Rattle.sal_transform.specs.Steps.{dequantised};
+ghost use Rattle.sal_transform.specs.Factors.{dequantised};
 
 use sal_macroblock::Block;
 
-/// A level times its step.
-pub fn stepped(level: i32, step: i32) -> i32
-    requires level { Within 2114 level }
-    requires step { Within 440 step }
-    ensures value { result ≡ level *ℤ step }
+/// A coefficient times its factor.
+pub fn dequantise(coefficient: i32, factor: i32) -> i32
+    requires coefficient { Within 2114 coefficient }
+    requires factor { Within 440 factor }
+    ensures value { result ≡ coefficient *ℤ factor }
     ensures small { Within 1048576 result }
 {
-    level * step
+    coefficient * factor
 }
 
-// The level at a position, times a step.
-fn value_at(block: &Block, position: usize, step: i32) -> i32
-    requires levels { All (Within 2114) block.now.0 }
+// The coefficient at a position, times a factor.
+fn value_at(block: &Block, position: usize, factor: i32) -> i32
+    requires coefficients { All (Within 2114) block.now.0 }
     requires place { position < 16 }
-    requires step { Within 440 step }
-    ensures value { result ≡ slice_index_or block.now.0 position (pos 0) *ℤ step }
+    requires factor { Within 440 factor }
+    ensures value { result ≡ slice_index_or block.now.0 position (pos 0) *ℤ factor }
     ensures small { Within 1048576 result }
 {
-    stepped(block.0[position], step)
+    dequantise(block.0[position], factor)
 }
 
-/// Levels in zigzag order to values in raster order: each is multiplied by its step, `dc` for the first and `ac` for the
+/// Coefficients in zigzag order to values in raster order: each is multiplied by its factor, `dc` for the first and `ac` for the
 /// others.
 pub fn dequant(block: &Block, dc: i32, ac: i32) -> [i32; 16]
-    requires levels { All (Within 2114) block.now.0 }
+    requires coefficients { All (Within 2114) block.now.0 }
     requires dc { Within 440 dc }
     requires ac { Within 440 ac }
     ensures value { result ≡ dequantised block.now.0 dc ac }

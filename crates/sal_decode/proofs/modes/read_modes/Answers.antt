@@ -1,7 +1,7 @@
 use Rattle.std.proofs.Common.{◌≡◌, ◌∙◌, ◌*◌, [], sym, ap, subst, All, arith}
 use Rattle.std.proofs.lemmas.List.Elements.{All-nil, All-push}
 use Rattle.sal_bool.specs.Syntax.{run}
-use Rattle.sal_modes.specs.Modes.{HasFittingModes}
+use Rattle.sal_macroblock.specs.Macroblocks.{HasFittingModes}
 use Rattle.sal_modes.proofs.Raster.{holds_more}
 use Rattle.sal_decode.specs.FirstPartition.{mb_modes}
 use Rattle.sal_decode.specs.Standing.{IsIntraKind}

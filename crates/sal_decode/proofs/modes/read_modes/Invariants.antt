@@ -1,6 +1,6 @@
 use Rattle.std.proofs.Common.{◌≡◌, ◌*◌, [], All, true}
 use Rattle.sal_bool.specs.Syntax.{run}
-use Rattle.sal_modes.specs.Modes.{HasFittingModes}
+use Rattle.sal_macroblock.specs.Macroblocks.{HasFittingModes}
 use Rattle.sal_modes.proofs.Raster.{HoldsUpTo}
 use Rattle.sal_decode.specs.FirstPartition.{mb_modes}
 use Rattle.sal_decode.specs.Standing.{IsIntraKind}

@@ -1,9 +1,11 @@
-use Rattle.std.proofs.Common.{◌*◌, ◌/◌, ◌%◌, ◌≤◌, ◌∙◌, map, take, refl, sym, ap, arith, mod-lt}
+use Rattle.std.proofs.Common.{◌≡◌, ◌*◌, ◌/◌, ◌%◌, ◌≤◌, ◌<◌, ◌∙◌, List, get_or, map, take, refl, sym, ap, arith, mod-lt}
+use Rattle.sal_transform.specs.Factors.{Factors}
 use Rattle.sal_base.specs.Pictures.{blocks_of}
 use Rattle.sal_header.specs.declared.header.Kept.{Kept}
-use Rattle.sal_frame.specs.Records.{macroblock, segment_steps, info_of}
+use Rattle.sal_frame.specs.Records.{macroblock, segment_factors, info_of}
 use Rattle.sal_frame.specs.Built.{one_built, all_built, blanks, references_or}
 use Rattle.sal_decode.specs.Syntax.{record_of}
+use Rattle.sal_decode.proofs.FourFactors.{built_as}
 use Rattle.sal_decode.proofs.Going.{one_more, all_done, row_below, record_header, record_columns, record_blocks, record_built}
 use Rattle.sal_decode.proofs.picture.build_picture.Goals as goal
 
@@ -22,16 +24,16 @@ build-requires-clause-place c =
 pub loop-k-preserved : goal.loop-k-preserved
 loop-k-preserved c =
     let columns = c.blocks_of-columns.result in
+    let factors = c.factors_in.ensures (segment_factors c.args.header.now) c.frame_factors-factors.ensures in
     let low : 1 ≤ columns = omega (arith, c.blocks_of-columns.ensures, c.requires.sides.wide) in
     one_more c.args.bytes.now (take c.args.parts.now.count c.args.parts.now.at) c.args.probs.now.coefficients columns (blocks_of c.args.height) c.args.header.now c.as_slice-map.result.now c.args.modes.now
     (references_or (blanks columns (blocks_of c.args.height)) c.args.state.now.references) (record_of c.args.state.now c.args.bytes.now (c.args.width, c.args.height) (take c.args.parts.now.count c.args.parts.now.at) (c.args.header.now, c.args.modes.now)) c.loop-k.k
-    _ _ _ _ _ _ _ _ _ _ c.in_segment-mode.result _ c.read-some.new.levels c.read-some.result c.info_of.result
+    _ _ _ _ _ _ _ _ _ _ c.in_segment-mode.result _ c.read-has_coefficients.new.coefficients c.read-has_coefficients.result c.info_of.result
     c.loop-k-test.true low (c.requires.count ∙ ap (λ n. n * blocks_of c.args.height) (sym c.blocks_of-columns.ensures))
     (record_header _ _ _ _ _) (record_columns _ _ _ _ _ ∙ sym c.blocks_of-columns.ensures) c.loop-k.invariant c.in_segment-mode.ensures.value c.in_segment-mode.ensures.fitting.segment
-    (c.read-some.ensures.reads c.args.bytes.now (take c.args.parts.now.count c.args.parts.now.at) columns c.loop-k.k c.loop-k.invariant.progress refl refl c.loop-k.invariant.holds)
-    (c.build.ensures (blanks columns (blocks_of c.args.height))
-    ∙ ap (λ o. one_built (references_or (blanks columns (blocks_of c.args.height)) o) (segment_steps c.args.header.now c.in_segment-mode.result.segment) (macroblock c.in_segment-mode.result c.read-some.new.levels c.read-some.result) (c.loop-k.k % columns) (c.loop-k.k / columns) c.loop-k.planes) c.references-references.ensures.references)
-    (c.info_of.ensures c.read-some.new.levels) c.in_ok-push.ensures.items
+    (c.read-has_coefficients.ensures.reads c.args.bytes.now (take c.args.parts.now.count c.args.parts.now.at) columns c.loop-k.k c.loop-k.invariant.progress refl refl c.loop-k.invariant.holds)
+    (built_as _ _ _ _ _ _ _ _ _ _ (c.build.ensures (blanks columns (blocks_of c.args.height))) (ap (λ o. references_or (blanks columns (blocks_of c.args.height)) o) c.references-references.ensures.references) factors c.new-block.ensures)
+    (c.info_of.ensures ∙ ap info_of c.new-block.ensures) c.in_ok-push.ensures.items
 
 pub returns-clause-built : goal.returns-clause-built
 returns-clause-built c =

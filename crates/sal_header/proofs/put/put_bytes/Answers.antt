@@ -1,5 +1,5 @@
 use Rattle.sal_bool.specs.Pairs.{literal_pairs}
-use Rattle.sal_header.proofs.Putting.{refused, left_start, values_put, values_some, values_all}
+use Rattle.sal_bool.proofs.Putting.{refused, left_start, values_put, values_some, values_all}
 use Rattle.sal_header.proofs.put.put_bytes.Goals as goal
 
 pub loop-i-init : goal.loop-i-init

@@ -1,7 +1,6 @@
 use Rattle.std.proofs.Common.{drop}
-use Rattle.sal_bool.specs.Pairs.{literal_pairs}
-use Rattle.sal_header.specs.Written.{all_pairs}
-use Rattle.sal_header.proofs.Putting.{Left}
+use Rattle.sal_bool.specs.Pairs.{literal_pairs, all_pairs}
+use Rattle.sal_bool.proofs.Putting.{Left}
 use Rattle.sal_header.proofs.put.put_bytes.Given as goal
 
 abbrev pub invariant-loop-i : goal.invariant-loop-i

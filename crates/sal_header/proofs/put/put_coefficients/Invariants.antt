@@ -1,6 +1,6 @@
 use Rattle.std.proofs.Common.{drop}
 use Rattle.sal_bool.specs.Pairs.{each_pairs, optional_pairs, literal_pairs}
-use Rattle.sal_header.proofs.Putting.{Left}
+use Rattle.sal_bool.proofs.Putting.{Left}
 use Rattle.sal_header.proofs.put.put_coefficients.Given as goal
 
 abbrev pub invariant-loop-i : goal.invariant-loop-i

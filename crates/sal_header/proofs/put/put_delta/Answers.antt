@@ -1,7 +1,7 @@
 use Rattle.std.proofs.Common.{ap, true}
 use Rattle.sal_bool.specs.Pairs.{flag_pairs, signed_pairs}
 use Rattle.sal_header.proofs.Values.{passed}
-use Rattle.sal_header.proofs.Putting.{refused, some_then, then_some, some_same}
+use Rattle.sal_bool.proofs.Putting.{refused, some_then, then_some, some_same}
 use Rattle.sal_header.proofs.put.put_delta.Goals as goal
 
 pub returns-in_err-put_flag-clause-some : goal.returns-in_err-put_flag-clause-some

@@ -1,4 +1,4 @@
-use Rattle.sal_header.proofs.Putting.{bit_some}
+use Rattle.sal_bool.proofs.Putting.{bit_some}
 use Rattle.sal_header.proofs.put.put_flag.Goals as goal
 
 pub returns-clause-some : goal.returns-clause-some

@@ -2,9 +2,9 @@ use Rattle.std.proofs.Common.{◌≡◌, ◌∙◌, ap, pos, sym, subst, to_z, o
 use Rattle.std.specs.Prelude.{OnOk, OnErr}
 use Rattle.sal_bool.specs.Written.{steps}
 use Rattle.sal_bool.specs.Pairs.{Pairs}
-use Rattle.sal_header.specs.Written.{PutSome}
+use Rattle.sal_bool.specs.Put.{PutSome}
 use Rattle.sal_header.proofs.Values.{passed}
-use Rattle.sal_header.proofs.Putting.{refused, flagged_zero, flagged_put, flagged_some, flagged_then_some}
+use Rattle.sal_bool.proofs.Putting.{refused, flagged_zero, flagged_put, flagged_some, flagged_then_some}
 use Rattle.sal_header.proofs.put.put_flagged.Goals as goal
 
 pub returns-then-z-eq0-clause-all : goal.returns-then-z-eq0-clause-all

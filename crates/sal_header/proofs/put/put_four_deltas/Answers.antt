@@ -2,7 +2,7 @@ use Rattle.std.proofs.Common.{◌∙◌, arith, ap, pos, get_or}
 use Rattle.sal_bool.specs.Written.{steps}
 use Rattle.sal_header.specs.Written.{delta_pairs}
 use Rattle.sal_header.proofs.Values.{passed}
-use Rattle.sal_header.proofs.Putting.{refused, left_start, values_put, values_some, values_all, some_same}
+use Rattle.sal_bool.proofs.Putting.{refused, left_start, values_put, values_some, values_all, some_same}
 use Rattle.sal_header.proofs.put.put_four_deltas.Goals as goal
 
 pub loop-i-init : goal.loop-i-init

@@ -1,6 +1,7 @@
 use Rattle.std.proofs.Common.{drop}
-use Rattle.sal_header.specs.Written.{all_pairs, delta_pairs}
-use Rattle.sal_header.proofs.Putting.{Left}
+use Rattle.sal_bool.specs.Pairs.{all_pairs}
+use Rattle.sal_header.specs.Written.{delta_pairs}
+use Rattle.sal_bool.proofs.Putting.{Left}
 use Rattle.sal_header.proofs.put.put_four_deltas.Given as goal
 
 abbrev pub invariant-loop-i : goal.invariant-loop-i

@@ -1,5 +1,5 @@
 use Rattle.std.proofs.Common.{refl}
-use Rattle.sal_header.proofs.Putting.{refused, literal_start, literal_put, literal_some, literal_all}
+use Rattle.sal_bool.proofs.Putting.{refused, literal_start, literal_put, literal_some, literal_all}
 use Rattle.sal_header.proofs.put.put_literal.Goals as goal
 
 pub loop-i-init : goal.loop-i-init

@@ -1,4 +1,5 @@
-use Rattle.sal_header.proofs.Putting.{refused, map_some, map_then_some}
+use Rattle.sal_bool.proofs.Putting.{refused}
+use Rattle.sal_header.proofs.MapPairs.{map_some, map_then_some}
 use Rattle.sal_header.proofs.put.put_map.Goals as goal
 
 pub returns-in_err-put_flag-clause-some : goal.returns-in_err-put_flag-clause-some

@@ -1,6 +1,5 @@
-use Rattle.sal_bool.specs.Pairs.{literal_pairs}
-use Rattle.sal_header.specs.Written.{all_pairs}
-use Rattle.sal_header.proofs.Putting.{refused, optional_some, optional_then_some}
+use Rattle.sal_bool.specs.Pairs.{literal_pairs, all_pairs}
+use Rattle.sal_bool.proofs.Putting.{refused, optional_some, optional_then_some}
 use Rattle.sal_header.proofs.put.put_optional_three.Goals as goal
 
 pub returns-in_err-put_flag-in-Some-clause-some : goal.returns-in_err-put_flag-in-Some-clause-some

@@ -1,7 +1,7 @@
 use Rattle.std.proofs.Common.{[], true}
 use Rattle.sal_bool.specs.Pairs.{pair}
 use Rattle.sal_header.specs.Written.{vector_pairs}
-use Rattle.sal_header.proofs.Putting.{refused, none_put, optional_some, optional_bit_some, optional_none_some}
+use Rattle.sal_bool.proofs.Putting.{refused, none_put, optional_some, optional_bit_some, optional_none_some}
 use Rattle.sal_header.proofs.put.put_optional_vector.Goals as goal
 
 pub returns-in_err-put-in-Some-clause-some : goal.returns-in_err-put-in-Some-clause-some

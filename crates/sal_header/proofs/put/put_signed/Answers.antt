@@ -1,7 +1,7 @@
 use Rattle.std.proofs.Common.{◌∙◌, ap, pos, unsigned_abs}
 use Rattle.std.specs.Int.Signed.{lt_z}
 use Rattle.sal_header.proofs.Values.{passed}
-use Rattle.sal_header.proofs.Putting.{refused, below_zero, signed_put, signed_some, sign_some}
+use Rattle.sal_bool.proofs.Putting.{refused, below_zero, signed_put, signed_some, sign_some}
 use Rattle.sal_header.proofs.put.put_signed.Goals as goal
 
 pub returns-in_err-put_literal-clause-some : goal.returns-in_err-put_literal-clause-some

@@ -1,6 +1,6 @@
 use Rattle.std.proofs.Common.{arith}
 use Rattle.sal_header.specs.Written.{map_pairs}
-use Rattle.sal_header.proofs.Putting.{refused, left_start, values_put, values_some, values_all}
+use Rattle.sal_bool.proofs.Putting.{refused, left_start, values_put, values_some, values_all}
 use Rattle.sal_header.proofs.put.put_three_map.Goals as goal
 
 pub loop-i-init : goal.loop-i-init

@@ -2,7 +2,7 @@ use Rattle.std.proofs.Common.{◌∙◌, arith, ap, None, List, ℕ}
 use Rattle.sal_bool.specs.Written.{steps}
 use Rattle.sal_bool.specs.Pairs.{each_pairs, optional_pairs}
 use Rattle.sal_header.specs.Written.{vector_pairs, vectors_pairs}
-use Rattle.sal_header.proofs.Putting.{refused, left_start, places_put, places_some, places_all, some_same}
+use Rattle.sal_bool.proofs.Putting.{refused, left_start, places_put, places_some, places_all, some_same}
 use Rattle.sal_header.proofs.put.put_vectors.Goals as goal
 
 pub loop-i-init : goal.loop-i-init

@@ -1,7 +1,7 @@
 use Rattle.std.proofs.Common.{drop}
 use Rattle.sal_bool.specs.Pairs.{each_pairs, optional_pairs}
 use Rattle.sal_header.specs.Written.{vector_pairs}
-use Rattle.sal_header.proofs.Putting.{Left}
+use Rattle.sal_bool.proofs.Putting.{Left}
 use Rattle.sal_header.proofs.put.put_vectors.Given as goal
 
 abbrev pub invariant-loop-i : goal.invariant-loop-i

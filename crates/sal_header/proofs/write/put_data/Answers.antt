@@ -1,6 +1,6 @@
-use Rattle.sal_bool.specs.Pairs.{flag_pairs, flagged_pairs}
-use Rattle.sal_header.specs.Written.{all_pairs, data_pairs}
-use Rattle.sal_header.proofs.Putting.{refused, put_then, put_done, some_then, then_some}
+use Rattle.sal_bool.specs.Pairs.{flag_pairs, flagged_pairs, all_pairs}
+use Rattle.sal_header.specs.Written.{data_pairs}
+use Rattle.sal_bool.proofs.Putting.{refused, put_then, put_done, some_then, then_some}
 use Rattle.sal_header.proofs.write.put_data.Goals as goal
 
 pub returns-in_err-put_flag-clause-some : goal.returns-in_err-put_flag-clause-some

@@ -1,5 +1,6 @@
-use Rattle.sal_header.specs.Written.{all_pairs, delta_pairs, deltas_pairs}
-use Rattle.sal_header.proofs.Putting.{refused, put_then, put_done, some_then, then_some}
+use Rattle.sal_bool.specs.Pairs.{all_pairs}
+use Rattle.sal_header.specs.Written.{delta_pairs, deltas_pairs}
+use Rattle.sal_bool.proofs.Putting.{refused, put_then, put_done, some_then, then_some}
 use Rattle.sal_header.proofs.write.put_deltas.Goals as goal
 
 pub returns-in_err-put_four_deltas-clause-some : goal.returns-in_err-put_four_deltas-clause-some

@@ -1,6 +1,6 @@
-use Rattle.sal_bool.specs.Pairs.{literal_pairs, optional_pairs}
-use Rattle.sal_header.specs.Written.{all_pairs, vectors_pairs, inter_modes_pairs}
-use Rattle.sal_header.proofs.Putting.{refused, put_then, put_done, some_then, then_some}
+use Rattle.sal_bool.specs.Pairs.{literal_pairs, optional_pairs, all_pairs}
+use Rattle.sal_header.specs.Written.{vectors_pairs, inter_modes_pairs}
+use Rattle.sal_bool.proofs.Putting.{refused, put_then, put_done, some_then, then_some}
 use Rattle.sal_header.proofs.write.put_inter_modes.Goals as goal
 
 pub returns-in_err-put_literal-clause-some : goal.returns-in_err-put_literal-clause-some

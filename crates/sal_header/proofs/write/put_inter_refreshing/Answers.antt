@@ -1,7 +1,7 @@
 use Rattle.std.proofs.Common.{not}
-use Rattle.sal_bool.specs.Pairs.{flag_pairs, literal_pairs}
-use Rattle.sal_header.specs.Written.{pairs_when, inter_refreshing_pairs}
-use Rattle.sal_header.proofs.Putting.{refused, put_then, put_done, some_then, then_some}
+use Rattle.sal_bool.specs.Pairs.{flag_pairs, literal_pairs, pairs_when}
+use Rattle.sal_header.specs.Written.{inter_refreshing_pairs}
+use Rattle.sal_bool.proofs.Putting.{refused, put_then, put_done, some_then, then_some}
 use Rattle.sal_header.proofs.write.put_inter_refreshing.Goals as goal
 
 pub returns-in_err-put_flag-clause-some : goal.returns-in_err-put_flag-clause-some

@@ -1,8 +1,8 @@
 use Rattle.std.proofs.Common.{◌∙◌, ap, not}
 use Rattle.sal_bool.specs.Written.{steps}
-use Rattle.sal_bool.specs.Pairs.{flag_pairs, literal_pairs}
-use Rattle.sal_header.specs.Written.{inter_modes_of, pairs_when, inter_modes_pairs, modes_pairs}
-use Rattle.sal_header.proofs.Putting.{refused, put_then, put_done, some_then, then_some, some_same}
+use Rattle.sal_bool.specs.Pairs.{flag_pairs, literal_pairs, pairs_when}
+use Rattle.sal_header.specs.Written.{inter_modes_of, inter_modes_pairs, modes_pairs}
+use Rattle.sal_bool.proofs.Putting.{refused, put_then, put_done, some_then, then_some, some_same}
 use Rattle.sal_header.proofs.write.put_modes.Goals as goal
 
 pub returns-in_err-put_flag-clause-some : goal.returns-in_err-put_flag-clause-some

@@ -3,7 +3,7 @@ use Rattle.sal_bool.specs.Written.{steps}
 use Rattle.sal_bool.specs.Pairs.{literal_pairs, flagged_pairs}
 use Rattle.sal_header.specs.Written.{quantisers_pairs}
 use Rattle.sal_header.proofs.Values.{passed}
-use Rattle.sal_header.proofs.Putting.{refused, put_then, put_done, some_then, then_some, some_same}
+use Rattle.sal_bool.proofs.Putting.{refused, put_then, put_done, some_then, then_some, some_same}
 use Rattle.sal_header.proofs.write.put_quantisers.Goals as goal
 
 pub returns-in_err-put_literal-clause-some : goal.returns-in_err-put_literal-clause-some

@@ -2,9 +2,9 @@ use Rattle.std.proofs.Common.{◌∙◌, ap}
 use Rattle.sal_bool.specs.Bits.{Interval}
 use Rattle.sal_bool.specs.Written.{steps}
 use Rattle.sal_header.specs.declared.header.Header.{Header}
-use Rattle.sal_bool.specs.Pairs.{flag_pairs, literal_pairs}
-use Rattle.sal_header.specs.Written.{segments_of, filtering_of, quantisers_of, refreshing_of, modes_of, pairs_when, segments_pairs, filtering_pairs, quantisers_pairs, refreshing_pairs, coefficients_pairs, modes_pairs, header_pairs}
-use Rattle.sal_header.proofs.Putting.{refused, put_then, put_done, some_then, then_some, some_same}
+use Rattle.sal_bool.specs.Pairs.{flag_pairs, literal_pairs, pairs_when}
+use Rattle.sal_header.specs.Written.{segments_of, filtering_of, quantisers_of, refreshing_of, modes_of, segments_pairs, filtering_pairs, quantisers_pairs, refreshing_pairs, coefficients_pairs, modes_pairs, header_pairs}
+use Rattle.sal_bool.proofs.Putting.{refused, put_then, put_done, some_then, then_some, some_same}
 use Rattle.sal_header.proofs.ReadBack.{header_again, header_read}
 use Rattle.sal_header.proofs.write.write_header.Goals as goal
 

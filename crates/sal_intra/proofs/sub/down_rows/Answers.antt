@@ -4,4 +4,4 @@ use Rattle.sal_intra.proofs.sub.down_rows.Goals as goal
 
 pub returns : goal.returns
 unfolding down_rows
-returns c = same_16 c.step-d3.ensures c.round-e4.ensures c.round-e5.ensures c.round-e6.ensures c.step-d2.ensures c.round-e3.ensures c.step-d3.ensures c.round-e4.ensures c.step-d1.ensures c.round-e2.ensures c.step-d2.ensures c.round-e3.ensures c.step-d0.ensures c.round-e1.ensures c.step-d1.ensures c.round-e2.ensures
+returns c = same_16 c.edge_average_of_two-d3.ensures c.edge_average_of_three-e4.ensures c.edge_average_of_three-e5.ensures c.edge_average_of_three-e6.ensures c.edge_average_of_two-d2.ensures c.edge_average_of_three-e3.ensures c.edge_average_of_two-d3.ensures c.edge_average_of_three-e4.ensures c.edge_average_of_two-d1.ensures c.edge_average_of_three-e2.ensures c.edge_average_of_two-d2.ensures c.edge_average_of_three-e3.ensures c.edge_average_of_two-d0.ensures c.edge_average_of_three-e1.ensures c.edge_average_of_two-d1.ensures c.edge_average_of_three-e2.ensures

@@ -4,4 +4,4 @@ use Rattle.sal_intra.proofs.sub.right_rows.Goals as goal
 
 pub returns : goal.returns
 unfolding right_rows
-returns c = same_16 c.step-d4.ensures c.step-d5.ensures c.step-d6.ensures c.step-d7.ensures c.round-e4.ensures c.round-e5.ensures c.round-e6.ensures c.round-e7.ensures c.round-e3.ensures c.step-d4.ensures c.step-d5.ensures c.step-d6.ensures c.round-e2.ensures c.round-e4.ensures c.round-e5.ensures c.round-e6.ensures
+returns c = same_16 c.edge_average_of_two-d4.ensures c.edge_average_of_two-d5.ensures c.edge_average_of_two-d6.ensures c.edge_average_of_two-d7.ensures c.edge_average_of_three-e4.ensures c.edge_average_of_three-e5.ensures c.edge_average_of_three-e6.ensures c.edge_average_of_three-e7.ensures c.edge_average_of_three-e3.ensures c.edge_average_of_two-d4.ensures c.edge_average_of_two-d5.ensures c.edge_average_of_two-d6.ensures c.edge_average_of_three-e2.ensures c.edge_average_of_three-e4.ensures c.edge_average_of_three-e5.ensures c.edge_average_of_three-e6.ensures

@@ -7,11 +7,11 @@ use Rattle.sal_bool.specs.Syntax.{run, leaf_from, signed}
 use Rattle.sal_tables.specs.Trees.{token_entries}
 use Rattle.sal_tables.specs.declared.tree.Entry.{Entry}
 use Rattle.sal_bool.proofs.Meaning.{exact_of}
-use Rattle.sal_tokens.specs.Levels.{token_row, start_of, block}
+use Rattle.sal_tokens.specs.Coefficients.{token_row, start_of, block}
 use Rattle.sal_tokens.proofs.Blocks.{SoFar, so_far_more, so_far_ends, so_far_full, token_leaves, start_small}
 use Rattle.sal_tokens.proofs.read.read_block.Goals as goal
 
--- a level as it is passed is the level
+-- a coefficient as it is passed is the coefficient
 kept : (z x : ℤ) → z ≡ x → Within 2114 z → to_z w32 (of_z w32 z) ≡ x
 kept z x e h = omega (arith, ints)
 
@@ -37,37 +37,37 @@ tree_from-token-requires-clause-probabilities c =
 pub tree_from-token-requires-clause-from : goal.tree_from-token-requires-clause-from
 tree_from-token-requires-clause-from c =
     let long = (token_leaves _ c.token_tree.ensures.digits).1 in
-    let small = start_small c.levels.after_zero in
+    let small = start_small c.coefficients.after_zero in
     omega (arith, long, small, c.start_of-start.ensures)
 
 pub returns-then-token-eq0-clause-reads : goal.returns-then-token-eq0-clause-reads
 returns-then-token-eq0-clause-reads c =
-    let called : run (leaf_from token_entries (token_row c.args.probs.now.coefficients c.args.kind c.levels.position c.levels.context) (start_of c.levels.after_zero)) c.levels.decoder ≡ (c.tree_from-token.result, c.tree_from-token.new.self) =
-    (call_along _ _ _ _ _ _ _ c.token_tree.ensures.digits (c.token_row-row.ensures.row ∙ ap (λ (cs : List ℕ). token_row cs c.args.kind c.levels.position c.levels.context) c.coefficients-coefficients.ensures.value) c.start_of-start.ensures c.tree_from-token.ensures.reads) in
+    let called : run (leaf_from token_entries (token_row c.args.probs.now.coefficients c.args.kind c.coefficients.position c.coefficients.context) (start_of c.coefficients.after_zero)) c.coefficients.decoder ≡ (c.tree_from-token.result, c.tree_from-token.new.self) =
+    (call_along _ _ _ _ _ _ _ c.token_tree.ensures.digits (c.token_row-row.ensures.row ∙ ap (λ (cs : List ℕ). token_row cs c.args.kind c.coefficients.position c.coefficients.context) c.coefficients-probabilities.ensures.value) c.start_of-start.ensures c.tree_from-token.ensures.reads) in
     let ended = called ∙ ap (λ (t : ℕ). let x : ℕ × Reading = (t, c.tree_from-token.new.self) in x) c.if-token-eq0.true in
-    so_far_ends _ _ _ _ _ _ _ _ _ _ c.levels-test.true ended c.levels.invariant.so_far
-    ∙ ap (λ (f : ℕ). let y : List ℤ × Bool = (c.levels.levels, nat_lt f c.levels.position) in let x : (List ℤ × Bool) × Reading = (y, c.tree_from-token.new.self) in x) (sym c.first_position-first.ensures)
+    so_far_ends _ _ _ _ _ _ _ _ _ _ c.coefficients-test.true ended c.coefficients.invariant.so_far
+    ∙ ap (λ (f : ℕ). let y : List ℤ × Bool = (c.coefficients.coefficients, nat_lt f c.coefficients.position) in let x : (List ℤ × Bool) × Reading = (y, c.tree_from-token.new.self) in x) (sym c.first_position-first.ensures)
 
 pub read_size-size-requires : goal.read_size-size-requires
 read_size-size-requires c =
     let below = c.tree_from-token.ensures.small 12 (token_leaves _ c.token_tree.ensures.digits).0 in
     (omega arith, below)
 
-pub levels-preserved : goal.levels-preserved
-levels-preserved c =
-    let called : run (leaf_from token_entries (token_row c.args.probs.now.coefficients c.args.kind c.levels.position c.levels.context) (start_of c.levels.after_zero)) c.levels.decoder ≡ (c.tree_from-token.result, c.tree_from-token.new.self) =
-    (call_along _ _ _ _ _ _ _ c.token_tree.ensures.digits (c.token_row-row.ensures.row ∙ ap (λ (cs : List ℕ). token_row cs c.args.kind c.levels.position c.levels.context) c.coefficients-coefficients.ensures.value) c.start_of-start.ensures c.tree_from-token.ensures.reads) in
-    let more = so_far_more _ _ _ _ _ _ _ _ _ c.tree_from-token.result c.read_size-size.result c.read_sign-negative.result _ _ _ c.levels-test.true (omega arith) called c.read_size-size.ensures.reads c.read_sign-negative.ensures.reads c.levels.invariant.so_far in
-    let level : to_z w32 (of_z w32 c.signed.result) ≡ signed c.read_size-size.result c.read_sign-negative.result = kept _ _ c.signed.ensures.value c.signed.ensures.small in
+pub coefficients-preserved : goal.coefficients-preserved
+coefficients-preserved c =
+    let called : run (leaf_from token_entries (token_row c.args.probs.now.coefficients c.args.kind c.coefficients.position c.coefficients.context) (start_of c.coefficients.after_zero)) c.coefficients.decoder ≡ (c.tree_from-token.result, c.tree_from-token.new.self) =
+    (call_along _ _ _ _ _ _ _ c.token_tree.ensures.digits (c.token_row-row.ensures.row ∙ ap (λ (cs : List ℕ). token_row cs c.args.kind c.coefficients.position c.coefficients.context) c.coefficients-probabilities.ensures.value) c.start_of-start.ensures c.tree_from-token.ensures.reads) in
+    let more = so_far_more _ _ _ _ _ _ _ _ _ c.tree_from-token.result c.read_size-size.result c.read_sign-negative.result _ _ _ c.coefficients-test.true (omega arith) called c.read_size-size.ensures.reads c.read_sign-negative.ensures.reads c.coefficients.invariant.so_far in
+    let coefficient : to_z w32 (of_z w32 c.signed.result) ≡ signed c.read_size-size.result c.read_sign-negative.result = kept _ _ c.signed.ensures.value c.signed.ensures.small in
     let low : c.min-context.result ≡ min 2 c.read_size-size.result = omega arith in
     record {
       low = omega arith;
-      small = All-set (Within 2114) c.levels.levels c.levels.position _ (kept_small _ c.signed.ensures.small) c.levels.invariant.small;
-      so_far = so_far_along _ _ _ _ _ _ _ _ _ _ _ low (ap (λ (v : ℤ). slice_set c.levels.levels c.levels.position v) level) more;
+      small = All-set (Within 2114) c.coefficients.coefficients c.coefficients.position _ (kept_small _ c.signed.ensures.small) c.coefficients.invariant.small;
+      so_far = so_far_along _ _ _ _ _ _ _ _ _ _ _ low (ap (λ (v : ℤ). slice_set c.coefficients.coefficients c.coefficients.position v) coefficient) more;
     }
 
 pub returns-clause-reads : goal.returns-clause-reads
-returns-clause-reads c = so_far_full _ _ _ _ _ _ _ _ _ c.levels-test.false c.levels.invariant.so_far
+returns-clause-reads c = so_far_full _ _ _ _ _ _ _ _ _ c.coefficients-test.false c.coefficients.invariant.so_far
 
 pub returns-then-token-eq0-clause-exact : goal.returns-then-token-eq0-clause-exact
 returns-then-token-eq0-clause-exact c = exact_of (block c.args.probs.now.coefficients c.args.kind c.args.context) _ _ _ (returns-then-token-eq0-clause-reads c)

@@ -2,8 +2,8 @@ use Rattle.std.proofs.Common.{pos, get_or}
 use Rattle.sal_base.specs.Samples.{listed_from}
 use Rattle.sal_macroblock.specs.Sizes.{Within}
 use Rattle.sal_tables.specs.Tables.{zigzag_of}
-use Rattle.sal_transform.specs.Steps.{dequantised}
-use Rattle.sal_transform.proofs.Signed.{entry, same_16, all_16, stepped_small}
+use Rattle.sal_transform.specs.Factors.{dequantised}
+use Rattle.sal_transform.proofs.Signed.{entry, same_16, all_16, dequantise_small}
 use Rattle.sal_transform.proofs.quantiser.dequant.Goals as goal
 
 pub returns-clause-value : goal.returns-clause-value
@@ -31,19 +31,19 @@ returns-clause-value c =
 pub returns-clause-small : goal.returns-clause-small
 returns-clause-small c =
     all_16 (Within 1048576) _ _ _ _ _ _ _ _ _ _ _ _ _ _ _ _
-    (stepped_small _ c.value_at.ensures.small)
-    (stepped_small _ c.value_at-2.ensures.small)
-    (stepped_small _ c.value_at-3.ensures.small)
-    (stepped_small _ c.value_at-4.ensures.small)
-    (stepped_small _ c.value_at-5.ensures.small)
-    (stepped_small _ c.value_at-6.ensures.small)
-    (stepped_small _ c.value_at-7.ensures.small)
-    (stepped_small _ c.value_at-8.ensures.small)
-    (stepped_small _ c.value_at-9.ensures.small)
-    (stepped_small _ c.value_at-10.ensures.small)
-    (stepped_small _ c.value_at-11.ensures.small)
-    (stepped_small _ c.value_at-12.ensures.small)
-    (stepped_small _ c.value_at-13.ensures.small)
-    (stepped_small _ c.value_at-14.ensures.small)
-    (stepped_small _ c.value_at-15.ensures.small)
-    (stepped_small _ c.value_at-16.ensures.small)
+    (dequantise_small _ c.value_at.ensures.small)
+    (dequantise_small _ c.value_at-2.ensures.small)
+    (dequantise_small _ c.value_at-3.ensures.small)
+    (dequantise_small _ c.value_at-4.ensures.small)
+    (dequantise_small _ c.value_at-5.ensures.small)
+    (dequantise_small _ c.value_at-6.ensures.small)
+    (dequantise_small _ c.value_at-7.ensures.small)
+    (dequantise_small _ c.value_at-8.ensures.small)
+    (dequantise_small _ c.value_at-9.ensures.small)
+    (dequantise_small _ c.value_at-10.ensures.small)
+    (dequantise_small _ c.value_at-11.ensures.small)
+    (dequantise_small _ c.value_at-12.ensures.small)
+    (dequantise_small _ c.value_at-13.ensures.small)
+    (dequantise_small _ c.value_at-14.ensures.small)
+    (dequantise_small _ c.value_at-15.ensures.small)
+    (dequantise_small _ c.value_at-16.ensures.small)

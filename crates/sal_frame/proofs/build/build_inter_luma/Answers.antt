@@ -1,6 +1,0 @@
-use Rattle.sal_frame.specs.Records.{macroblock}
-use Rattle.sal_frame.proofs.InterLemmas.{luma_placed}
-use Rattle.sal_frame.proofs.build.build_inter_luma.Goals as goal
-
-pub returns : goal.returns
-returns c = luma_placed c.args.reference.now c.args.steps.now (macroblock c.args.mode.now c.args.levels.now c.args.some) c.args.plane.now _ c.args.x c.args.y _ c.requires.mode c.inter_luma-samples.ensures c.put_square.ensures

@@ -1,9 +1,0 @@
-use Rattle.std.proofs.Common.{◌≡◌, ◌<◌, ℕ, [], pos, length, get_or}
-use Rattle.sal_transform.specs.Residue.{residue_of}
-use Rattle.sal_frame.proofs.residue.luma_alone.Given as goal
-
-abbrev pub invariant-loop-k : goal.invariant-loop-k
-invariant-loop-k l = record {
-  long : length l.residues ≡ 16;
-  done : (j : ℕ) → j < l.k → get_or l.residues j [] ≡ residue_of (get_or l.levels j []) (pos l.dc) (pos l.ac);
-}

@@ -1,5 +1,0 @@
-use Rattle.sal_tables.proofs.Ranges.{at_most}
-use Rattle.sal_frame.proofs.steps.ac_step.Goals as goal
-
-pub returns-clause-small : goal.returns-clause-small
-returns-clause-small c = at_most 4 284 c.ac_steps.result.now c.cut_off.result c.ac_steps.ensures.range
