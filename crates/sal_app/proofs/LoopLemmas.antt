@@ -10,7 +10,7 @@ use Rattle.sal_y4m.specs.Grammar.{header_at}
 use Rattle.sal_y4m.specs.Answers.{HeaderUnread}
 use Rattle.sal_script.specs.Numbered.{Numbered}
 use Rattle.sal_script.specs.Script.{script_of}
-use Rattle.sal_run.specs.declared.diary.DiaryFault.{DiaryFault}
+use Rattle.sal_world.specs.declared.diary.DiaryFault.{DiaryFault}
 use Rattle.sal_run.specs.declared.end.RunEnd.{RunEnd}
 use Rattle.sal_run.specs.declared.end.RunEnd.TheVariants as run
 use Rattle.sal_run.specs.declared.end.Which.TheVariants.{Out, Journal, Pictures, Script}

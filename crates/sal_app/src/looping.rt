@@ -3,15 +3,15 @@
 ghost use Rattle.std.specs.Prelude.{is_some, ◌≡◌, ◌≤◌, length, false, None, Err, OnOk, IfOk};
 ghost use Rattle.sal_io.specs.Calls.{HasCause};
 ghost use Rattle.sal_y4m.specs.Grammar.{IsNarrow};
-ghost use Rattle.sal_script.specs.Script.{most_script};
 ghost use Rattle.sal_app.specs.Stops.{of_script, of_input, of_run, IsNothing, LinesGive, HeadGives};
 ghost use Rattle.sal_app.specs.Ends.{RunGives, AtEnd};
 
 use crate::status::Stop;
 use sal_codec::Codec;
 use sal_io::{Sink, Source};
-use sal_run::{NoDiary, RunEnd, run_alone};
+use sal_run::{RunEnd, run_alone};
 use sal_script::{Script, ScriptFault, read_script};
+use sal_world::NoDiary;
 use sal_y4m::{Reader, Writer, Y4mFault};
 use std::alloc::Global;
 
@@ -56,7 +56,6 @@ fn run_stop(end: RunEnd) -> Result<(), Stop>
 // Reads the script, and tests all its lines.
 fn read_lines<T: Source>(alloc: Global, script: &mut T) -> Result<Script, Stop>
     ensures told { LinesGive (T.left script.old) (T.left script.new) result }
-    ensures count { IfOk result (λ lines. length lines ≤ most_script) }
     ensures cause { HasCause (Err Stop.ScriptFault) (T.faults script.old) (T.faults script.new) result }
     ensures name { T.name script.new ≡ T.name script.old }
     ensures had { T.had script.new ≡ T.had script.old }

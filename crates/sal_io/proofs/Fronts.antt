@@ -3,8 +3,8 @@ use Rattle.std.proofs.Common.{◌≡◌, ℕ, ◌≤◌, List, [], ◌∷◌, �
 use Rattle.std.specs.Io.KnownBytes.{Consumes}
 use Rattle.sal_io.specs.declared.whole.Filled.{Filled}
 use Rattle.sal_io.specs.declared.whole.Filled.TheVariants as filled
-use Rattle.sal_io.specs.declared.line.Line.{Line}
-use Rattle.sal_io.specs.declared.line.Line.TheVariants as lines
+use Rattle.sal_io.specs.declared.line.LineRead.{LineRead}
+use Rattle.sal_io.specs.declared.line.LineRead.TheVariants as lines
 use Rattle.sal_io.specs.Told.{TakesUpTo}
 use Rattle.sal_io.specs.Calls.{FillGives}
 use Rattle.sal_io.specs.Lines.{LineGives, LineTakes}
@@ -18,7 +18,7 @@ fill_takes a b filled.Full buf p = (buf, le_refl (length buf), p)
 fill_takes a b (filled.Short n) buf p = takes_front n buf a b (omega (arith, p.0)) p.2
 fill_takes a b filled.Failed buf p = takes_front p.0 buf a b (omega (arith, p.1)) p.2
 
-line_takes : (a b : Option (List ℕ)) (r : Line) (buf : List ℕ) → LineGives a b r buf → LineTakes a b r buf → TakesUpTo (length buf) a b
+line_takes : (a b : Option (List ℕ)) (r : LineRead) (buf : List ℕ) → LineGives a b r buf → LineTakes a b r buf → TakesUpTo (length buf) a b
 line_takes a b (lines.Whole n) buf p q =
     let long : length (take n buf) ≡ n = length-take-le n buf (omega (arith, p.0)) in
     (take n buf ++ 10 ∷ [], omega (arith, length-append (take n buf) (10 ∷ []), long, p.0), q)
@@ -31,5 +31,5 @@ pub fill_within : (n : ℕ) (a b : Option (List ℕ)) (r : Filled) (buf : List �
 fill_within n a b r buf le p = takes_within (length buf) n a b le (fill_takes a b r buf p)
 
 -- reading a line into a buffer of at most n bytes
-pub line_takes_within : (n : ℕ) (a b : Option (List ℕ)) (r : Line) (buf : List ℕ) → length buf ≤ n → LineGives a b r buf → LineTakes a b r buf → TakesUpTo n a b
+pub line_takes_within : (n : ℕ) (a b : Option (List ℕ)) (r : LineRead) (buf : List ℕ) → length buf ≤ n → LineGives a b r buf → LineTakes a b r buf → TakesUpTo n a b
 line_takes_within n a b r buf le p q = takes_within (length buf) n a b le (line_takes a b r buf p q)

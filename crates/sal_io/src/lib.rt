@@ -18,7 +18,7 @@ pub use answers::{ShelfFault, Took, Wrote};
 pub use contents::{Contents, read_all};
 pub use host::Host;
 pub use ledger::{Ledger, Shut};
-pub use line::{Line, read_line};
+pub use line::{LineRead, read_line};
 pub use mem_file::MemFile;
 pub use mem_shelf::MemShelf;
 pub use mem_sink::MemSink;

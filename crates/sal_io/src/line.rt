@@ -9,7 +9,7 @@ use crate::whole::{Filled, fill};
 
 /// What reading a line came to.
 #[derive(Clone, Copy, Debug, PartialEq, Eq)]
-pub enum Line {
+pub enum LineRead {
     /// So many bytes stand before the newline.
     Whole(usize),
     /// Nothing was left.
@@ -21,11 +21,11 @@ pub enum Line {
 }
 
 /// Reads a line, whose newline is taken and not stored.
-pub fn read_line<S: Source>(source: &mut S, line: &mut [u8]) -> Line
+pub fn read_line<S: Source>(source: &mut S, line: &mut [u8]) -> LineRead
     ensures told { LineGives (S.left source.old) (S.left source.new) result line.new }
     ensures taken { LineTakes (S.left source.old) (S.left source.new) result line.new }
-    ensures some { result ≡ Line.Broken → 0 < length line.new → IfSome (S.left source.old) (λ xs. xs ≢ []) }
-    ensures cause { HasCause Line.Failed (S.faults source.old) (S.faults source.new) result }
+    ensures some { result ≡ LineRead.Broken → 0 < length line.new → IfSome (S.left source.old) (λ xs. xs ≢ []) }
+    ensures cause { HasCause LineRead.Failed (S.faults source.old) (S.faults source.new) result }
     ensures name { S.name source.new ≡ S.name source.old }
     ensures had { S.had source.new ≡ S.had source.old }
     ensures tells { is_some (S.left source.new) ≡ is_some (S.left source.old) }
@@ -36,17 +36,17 @@ pub fn read_line<S: Source>(source: &mut S, line: &mut [u8]) -> Line
             Filled::Full => {}
             Filled::Short(_) => {
                 if i == 0 {
-                    return Line::End;
+                    return LineRead::End;
                 }
-                return Line::Broken;
+                return LineRead::Broken;
             }
-            Filled::Failed => return Line::Failed,
+            Filled::Failed => return LineRead::Failed,
         }
         let byte = one[0];
         if byte == b'\n' {
-            return Line::Whole(i);
+            return LineRead::Whole(i);
         }
         line[i] = byte;
     }
-    Line::Broken
+    LineRead::Broken
 }

@@ -78,14 +78,14 @@ fn lines_and_blocks(rt: HostRuntime) -> Result<(), Fail> {
     let alloc = rt.alloc();
     let mut source = source(alloc, b"ab\n\nlonger\nlast", &[])?;
     let mut line = [0u8; 4];
-    assert_eq!(rt; read_line(&mut source, &mut line), Line::Whole(2));
+    assert_eq!(rt; read_line(&mut source, &mut line), LineRead::Whole(2));
     assert_eq!(rt; &line[..2], b"ab".as_slice());
-    assert_eq!(rt; read_line(&mut source, &mut line), Line::Whole(0));
-    assert_eq!(rt; read_line(&mut source, &mut line), Line::Broken);
+    assert_eq!(rt; read_line(&mut source, &mut line), LineRead::Whole(0));
+    assert_eq!(rt; read_line(&mut source, &mut line), LineRead::Broken);
     assert_eq!(rt; fill(&mut source, &mut line), Filled::Full);
     assert_eq!(rt; line, *b"er\nl");
     assert_eq!(rt; fill(&mut source, &mut line), Filled::Short(3));
-    assert_eq!(rt; read_line(&mut source, &mut line), Line::End);
+    assert_eq!(rt; read_line(&mut source, &mut line), LineRead::End);
     Ok(())
 }
 

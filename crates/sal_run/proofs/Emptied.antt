@@ -1,12 +1,12 @@
 -- No ready frame is left after a run over a clip.
-use Rattle.std.proofs.Common.{◌≡◌, ℕ, List, [], ◌∷◌, Option, Some, None, refl, subst, sym}
+use Rattle.std.proofs.Common.{ℕ, List, [], ◌∷◌, Option, Some, None, refl, subst, sym}
 use Rattle.sal_codec.specs.Coding.{Coding}
 use Rattle.sal_y4m.specs.declared.head.Head.{Head}
 use Rattle.sal_script.specs.declared.line.ScriptLine.{ScriptLine}
 use Rattle.sal_script.specs.declared.line.ScriptLine.TheVariants.{Next, NextLate, Down, Up, DownAll, UpAll, Wait, Rest}
 use Rattle.sal_script.specs.Numbered.{Numbered}
 use Rattle.sal_sender.specs.OneThread.{Session}
-use Rattle.sal_world.specs.Promises.{Names}
+use Rattle.sal_world.specs.Promises.{NamesDifferIn}
 use Rattle.sal_world.specs.Script.{Run, line}
 use Rattle.sal_world.proofs.Emptied.{IsEmpty, IsEmptyIn, line_empty, begun_empty, served_so}
 use Rattle.sal_run.specs.Clip.{End, clip_at}
@@ -45,5 +45,5 @@ module _ {S : Type 0} (codec : Coding S) where
       record {
         left = left;
         served = λ names. served_so codec (session_of head) run.world.receiver
-            (subst (λ w. Rattle.sal_receiver.specs.Promises.ReadyIsServed codec w.receiver) (sym keeps.world) (keeps.holds [] run.events refl (subst (Names codec) keeps.world names)).served) left;
+            (subst (λ w. Rattle.sal_receiver.specs.Promises.ReadyIsServed codec w.receiver) (sym keeps.world) ((keeps.holds [] run.events refl).named (subst (NamesDifferIn codec) keeps.world names)).served) left;
       }

@@ -12,11 +12,11 @@ use Rattle.sal_script.specs.declared.line.ScriptLine.TheVariants.{Next, NextLate
 use Rattle.sal_script.specs.Numbered.{Numbered}
 use Rattle.sal_sender.specs.Jobs.{Job}
 use Rattle.sal_sender.specs.Choosing.{is_fine}
-use Rattle.sal_world.specs.Both.{Both}
-use Rattle.sal_world.specs.World.{Event, sent, acks, after}
-use Rattle.sal_world.specs.World.{Next as NextEvent}
+use Rattle.sal_world.specs.WorldParts.{WorldParts}
+use Rattle.sal_world.specs.World.{WorldEvent, sent, acks, after}
+use Rattle.sal_world.specs.World.{Starts}
 use Rattle.sal_world.specs.Script.{Run, with_event, next_picture, down, up, down_all, up_all, wait, rest, is_number, line}
-use Rattle.sal_run.specs.declared.diary.DiaryFault.{DiaryFault}
+use Rattle.sal_world.specs.declared.diary.DiaryFault.{DiaryFault}
 use Rattle.sal_run.specs.declared.stop.Stop.{Stop}
 use Rattle.sal_run.specs.declared.stop.Stop.TheVariants as stop
 use Rattle.sal_run.specs.Clip.{End, BadInput, BadScript, TooMany, TooLong, over, Clip}
@@ -31,7 +31,7 @@ use Rattle.sal_run.proofs.Clips.{clip_some, clip_end, clip_broken, clip_over}
 
 -- the events of a run come after those of another
 pub record Follows {S : Type 0} (r s : Run S) : Type 0 where
-  pub later : List Event
+  pub later : List WorldEvent
   pub events : s.events ≡ later ++ r.events
 
 pub follows_none : {S : Type 0} (r : Run S) → Follows r r
@@ -61,7 +61,7 @@ pub number_is : (b found : Bool) (k k' n n' : ℕ) → found ≡ is_number k' n'
 number_is b found k k' n n' e h same_k same_n = ap (λ (x : ℕ). is_number x n) (sym same_k) ∙ (ap (λ (x : ℕ). is_number k' x) (sym same_n) ∙ (sym e ∙ h))
 
 module _ {S : Type 0} (codec : Coding S) (head : Head) where
-  step_grows : (r : Run S) (e : Event) (s : Run S) → Grows r s → Grows r (with_event codec (session_of head) e s)
+  step_grows : (r : Run S) (e : WorldEvent) (s : Run S) → Grows r s → Grows r (with_event codec (session_of head) e s)
   step_grows r e s g = grows_event codec (session_of head) r e s g
 
   pub shot_grows : (late : Job → Bool) (picture : Picture) (r : Run S) → Grows r (next_picture codec (session_of head) late picture r)
@@ -164,7 +164,7 @@ module _ {S : Type 0} (codec : Coding S) (head : Head) where
   ends_here None r q t end e same shown = (ap (λ (x : Run S × End). x.1) e, tt)
   ends_here (Some o) r q t end e same shown = (ap (λ (x : Run S × End). x.1) e, shown ∙ sym (ap (λ (x : Run S × End). out_text head x.0.world) e ∙ ap (λ w. out_text head w) same))
 
-  pub part_of : (held : Option (List ℕ)) (b : Both S) (r s : Run S) → IsRunning codec head b held r → Follows r s → IfSome held (PartlyOf codec head s.events)
+  pub part_of : (held : Option (List ℕ)) (b : WorldParts S) (r s : Run S) → IsRunning codec head b held r → Follows r s → IfSome held (PartlyOf codec head s.events)
   part_of None b r s is f = tt
   part_of (Some o) b r s is f = (f.later, (r.events, f.events, is.shown ∙ ap (λ w. out_text head w) is.world))
 
@@ -177,31 +177,31 @@ module _ {S : Type 0} (codec : Coding S) (head : Head) where
   to_next late n more r c (p ∷ ps) o e shown =
       let same : c ≡ record { pictures = p ∷ ps; fault = c.fault } = ap (λ (xs : List Picture). let d : Clip = record { pictures = xs; fault = c.fault } in d) e in
       let q : Run S = record r { left = ps } in
-      let first : Run S = with_event codec (session_of head) (NextEvent p) q in
+      let first : Run S = with_event codec (session_of head) (Starts p) q in
       let s : Run S = next_picture codec (session_of head) (is_late late) p q in
       let g : Grows first s = chosen_kept codec (session_of head) (λ t. Grows first t) (λ e u t a. step_grows first e t a) (is_late late) first (grows_none first) in
       let f : Follows s (end_of_lines c.fault more s).0 = follows_lines c.fault more s in
-      let events : (end_of_lines c.fault more s).0.events ≡ ((f.later ++ g.later) ++ NextEvent p ∷ []) ++ r.events =
-      f.events ∙ (ap (λ es. f.later ++ es) g.events ∙ (sym (append_assoc f.later g.later (NextEvent p ∷ r.events)) ∙ sym (append_assoc (f.later ++ g.later) (NextEvent p ∷ []) r.events))) in
+      let events : (end_of_lines c.fault more s).0.events ≡ ((f.later ++ g.later) ++ Starts p ∷ []) ++ r.events =
+      f.events ∙ (ap (λ es. f.later ++ es) g.events ∙ (sym (append_assoc f.later g.later (Starts p ∷ r.events)) ∙ sym (append_assoc (f.later ++ g.later) (Starts p ∷ []) r.events))) in
       let runs : run_from c ((n, next_said late) ∷ more) r ≡ end_of_lines c.fault more s = ap (λ (d : Clip). run_from d ((n, next_said late) ∷ more) r) same ∙ next_run late n more r p ps c.fault in
-      ((f.later ++ g.later) ++ NextEvent p ∷ [], (r.events, ap (λ (t : Run S × End). t.0.events) runs ∙ events, inl (inr (p, (f.later ++ g.later, refl))), shown))
+      ((f.later ++ g.later) ++ Starts p ∷ [], (r.events, ap (λ (t : Run S × End). t.0.events) runs ∙ events, inl (inr (p, (f.later ++ g.later, refl))), shown))
 
-  to_next_told : (late : Bool) (n : ℕ) (more : List Numbered) (b : Both S) (held : Option (List ℕ)) (r : Run S) (c : Clip) → IsRunning codec head b held r → IfSome held (λ o. ToNextOf codec head (λ ls. (run_from c ls r).0.events) ((n, next_said late) ∷ more) o)
+  to_next_told : (late : Bool) (n : ℕ) (more : List Numbered) (b : WorldParts S) (held : Option (List ℕ)) (r : Run S) (c : Clip) → IsRunning codec head b held r → IfSome held (λ o. ToNextOf codec head (λ ls. (run_from c ls r).0.events) ((n, next_said late) ∷ more) o)
   to_next_told late n more b None r c is = tt
   to_next_told late n more b (Some o) r c is = to_next late n more r c c.pictures o refl (is.shown ∙ ap (λ w. out_text head w) is.world)
 
   module _ (gives : DiaryFault → Bool) where
-    pub line_exit : {X : Type 0} (numbered : Numbered) (m m' : ℕ) (left left' : Option (List ℕ)) (b : Both S) (d u : Marks) (held : Option (List ℕ)) (r : Run S) (result : Result X Stop) (why : Stop) → IsErrAnd result (λ e. e ≡ why)
+    pub line_exit : {X : Type 0} (numbered : Numbered) (m m' : ℕ) (left left' : Option (List ℕ)) (b : WorldParts S) (d u : Marks) (held : Option (List ℕ)) (r : Run S) (result : Result X Stop) (why : Stop) → IsErrAnd result (λ e. e ≡ why)
         → ((more : List Numbered) → Halts codec head gives left held (λ ls l. onward codec head m l ls r) (numbered ∷ more) why) → LineGoes codec head gives numbered m m' left left' b d u held r result
     line_exit numbered m m' left left' b d u held r (Ok x) why h p = absurd h
     line_exit numbered m m' left left' b d u held r (Err e) why h p = subst (λ s. (more : List Numbered) → Halts codec head gives left held (λ ls l. onward codec head m l ls r) (numbered ∷ more) s) (sym h) p
 
-    pub said_goes : (n : ℕ) (said same : ScriptLine) (m m' : ℕ) (left left' : Option (List ℕ)) (b : Both S) (d u : Marks) (held : Option (List ℕ)) (r : Run S) (result : Result (Unit {0}) Stop) → said ≡ same
+    pub said_goes : (n : ℕ) (said same : ScriptLine) (m m' : ℕ) (left left' : Option (List ℕ)) (b : WorldParts S) (d u : Marks) (held : Option (List ℕ)) (r : Run S) (result : Result (Unit {0}) Stop) → said ≡ same
         → LineGoes codec head gives (n, same) m m' left left' b d u held r result → LineGoes codec head gives (n, said) m m' left left' b d u held r result
     said_goes n said same m m' left left' b d u held r result e p = subst (λ (x : ScriptLine). LineGoes codec head gives (n, x) m m' left left' b d u held r result) (sym e) p
 
     -- no picture was taken
-    pub take_halts : (late : Bool) (n m : ℕ) (more : List Numbered) (left left' : Option (List ℕ)) (b : Both S) (held : Option (List ℕ)) (r : Run S) (why : Stop) → TakeGives head m left left' (Err why) → IsRunning codec head b held r
+    pub take_halts : (late : Bool) (n m : ℕ) (more : List Numbered) (left left' : Option (List ℕ)) (b : WorldParts S) (held : Option (List ℕ)) (r : Run S) (why : Stop) → TakeGives head m left left' (Err why) → IsRunning codec head b held r
         → Halts codec head gives left held (λ ls l. onward codec head m l ls r) ((n, next_said late) ∷ more) why
     take_halts late n m more None left' b held r (stop.BadInput place why) t is = tt
     take_halts late n m more (Some l) left' b held r (stop.BadInput place why) t is =
@@ -231,7 +231,7 @@ module _ {S : Type 0} (codec : Coding S) (head : Head) where
             record { later = f.later; events = f.events }
 
     -- no picture is left
-    pub none_halts : (late : Bool) (n m : ℕ) (more : List Numbered) (left left' : Option (List ℕ)) (b : Both S) (held : Option (List ℕ)) (r : Run S) (found : Option Picture) → found ≡ None → TakeGives head m left left' (Ok found) → IsRunning codec head b held r
+    pub none_halts : (late : Bool) (n m : ℕ) (more : List Numbered) (left left' : Option (List ℕ)) (b : WorldParts S) (held : Option (List ℕ)) (r : Run S) (found : Option Picture) → found ≡ None → TakeGives head m left left' (Ok found) → IsRunning codec head b held r
         → IfSome left (λ l. EndsAs codec head held (BadScript n) (onward codec head m l ((n, next_said late) ∷ more) r))
     none_halts late n m more None left' b held r found e t is = tt
     none_halts late n m more (Some l) left' b held r (Some p) e t is = absurd cc
@@ -239,7 +239,7 @@ module _ {S : Type 0} (codec : Coding S) (head : Head) where
         ends_here held r (record r { left = [] }) _ (BadScript n) (ap (λ (c : Clip). run_from c ((n, next_said late) ∷ more) r) (clip_end head m l t.0) ∙ next_ends late n more r None) refl is.shown
 
     -- what stops a step that leads on to the lines after it
-    pub stopped_part : (left held : Option (List ℕ)) (events later : List Event) (l : List ℕ) (why : Stop) (final : List Numbered → List ℕ → Run S × End) (lines : List Numbered) → left ≡ Some l → (final lines l).0.events ≡ later ++ events → Stopped codec head gives held events why → Halts codec head gives left held final lines why
+    pub stopped_part : (left held : Option (List ℕ)) (events later : List WorldEvent) (l : List ℕ) (why : Stop) (final : List Numbered → List ℕ → Run S × End) (lines : List Numbered) → left ≡ Some l → (final lines l).0.events ≡ later ++ events → Stopped codec head gives held events why → Halts codec head gives left held final lines why
     stopped_part left held events later l (stop.BadInput place why) final lines e same p = absurd p
     stopped_part left held events later l (stop.BadScript line) final lines e same p = absurd p
     stopped_part left held events later l stop.TooMany final lines e same p = absurd p
@@ -249,7 +249,7 @@ module _ {S : Type 0} (codec : Coding S) (head : Head) where
     stopped_part left held events later l (stop.Diary fault) final lines e same p = rw e (stopped_later codec head gives held events (final lines l).0.events later (stop.Diary fault) same p)
     stopped_part left held events later l stop.Memory final lines e same p = rw e (stopped_later codec head gives held events (final lines l).0.events later stop.Memory same p)
 
-    pub stopped_untold : (held : Option (List ℕ)) (events : List Event) (why : Stop) (final : List Numbered → List ℕ → Run S × End) (lines : List Numbered) → Stopped codec head gives held events why → Halts codec head gives None held final lines why
+    pub stopped_untold : (held : Option (List ℕ)) (events : List WorldEvent) (why : Stop) (final : List Numbered → List ℕ → Run S × End) (lines : List Numbered) → Stopped codec head gives held events why → Halts codec head gives None held final lines why
     stopped_untold held events (stop.BadInput place why) final lines p = absurd p
     stopped_untold held events (stop.BadScript line) final lines p = absurd p
     stopped_untold held events stop.TooMany final lines p = absurd p
@@ -272,11 +272,11 @@ module _ {S : Type 0} (codec : Coding S) (head : Head) where
         next_at late n m more l l' r p e
         ∙ (ap (λ (x : Run S). end_of_lines (clip_in head m l').fault more x) (sym (left_same s ps g.left)) ∙ ap (λ (k : ℕ). onward codec head k l' more s) (sym same))
 
-    pub moved : (b : Both S) (d u : Marks) (held : Option (List ℕ)) (r : Run S) (ps : List Picture) → IsAt codec head b d u held r → IsAt codec head b d u held (record r { left = ps })
+    pub moved : (b : WorldParts S) (d u : Marks) (held : Option (List ℕ)) (r : Run S) (ps : List Picture) → IsAt codec head b d u held r → IsAt codec head b d u held (record r { left = ps })
     moved b d u held r ps at = record { running = record { stands = at.running.stands; world = at.running.world; shown = at.running.shown }; downs_are = at.downs_are; ups_are = at.ups_are }
 
     -- a picture was taken
-    pub next_goes : (late : Bool) (n m m' : ℕ) (left left' : Option (List ℕ)) (b0 b : Both S) (d0 u0 d u : Marks) (held : Option (List ℕ)) (r : Run S) (found : Option Picture) (p : Picture) (result : Result (Unit {0}) Stop)
+    pub next_goes : (late : Bool) (n m m' : ℕ) (left left' : Option (List ℕ)) (b0 b : WorldParts S) (d0 u0 d u : Marks) (held : Option (List ℕ)) (r : Run S) (found : Option Picture) (p : Picture) (result : Result (Unit {0}) Stop)
         → found ≡ Some p → TakeGives head m left left' (Ok found) → m' + 1 ≡ m → IsAt codec head b0 d0 u0 held r
         → ((q : Run S) → IsAt codec head b0 d0 u0 held q → Comes codec head gives b d u held (next_picture codec (session_of head) (is_late late) p q) result)
         → LineGoes codec head gives (n, next_said late) m m' left left' b d u held r result
@@ -302,7 +302,7 @@ module _ {S : Type 0} (codec : Coding S) (head : Head) where
 
     -- ---- a line that reads nothing
 
-    pub plain_goes : (numbered : Numbered) (f : Run S → Run S) (m : ℕ) (left : Option (List ℕ)) (b0 b : Both S) (d0 u0 d u : Marks) (held held' : Option (List ℕ)) (r : Run S) (result : Result (Unit {0}) Stop)
+    pub plain_goes : (numbered : Numbered) (f : Run S → Run S) (m : ℕ) (left : Option (List ℕ)) (b0 b : WorldParts S) (d0 u0 d u : Marks) (held held' : Option (List ℕ)) (r : Run S) (result : Result (Unit {0}) Stop)
         → ((q : Run S) → Grows q (f q)) → ((more : List Numbered) (fault : Option End) (q : Run S) → q.world ≡ r.world → end_of_lines fault (numbered ∷ more) q ≡ end_of_lines fault more (f q)) → IsAt codec head b0 d0 u0 held r
         → ((q : Run S) → IsAt codec head b0 d0 u0 held q → Comes codec head gives b d u held' (f q) result) → LineGoes codec head gives numbered m m left left b d u held' r result
     plain_goes numbered f m None b0 b d0 u0 d u held held' r (Ok x) grown unfolds at comes = (f r, (comes r at, tt))
@@ -332,17 +332,17 @@ module _ {S : Type 0} (codec : Coding S) (head : Head) where
   up_unrun n k more q fault e = rw e refl
 
   -- a number that wasn't sent
-  pub down_bad : (n k m : ℕ) (more : List Numbered) (left held : Option (List ℕ)) (b : Both S) (r : Run S) → is_number k (length (sent r.world)) ≡ false → IsRunning codec head b held r → IfSome left (λ l. EndsAs codec head held (BadScript n) (onward codec head m l ((n, Down k) ∷ more) r))
+  pub down_bad : (n k m : ℕ) (more : List Numbered) (left held : Option (List ℕ)) (b : WorldParts S) (r : Run S) → is_number k (length (sent r.world)) ≡ false → IsRunning codec head b held r → IfSome left (λ l. EndsAs codec head held (BadScript n) (onward codec head m l ((n, Down k) ∷ more) r))
   down_bad n k m more None held b r e is = tt
   down_bad n k m more (Some l) held b r e is =
       let q : Run S = record r { left = (clip_in head m l).pictures } in
       ends_here held r q _ (BadScript n) (down_unrun n k more q (clip_in head m l).fault e) refl is.shown
 
-  pub up_bad : (n k m : ℕ) (more : List Numbered) (left held : Option (List ℕ)) (b : Both S) (r : Run S) → is_number k (length (acks r.world)) ≡ false → IsRunning codec head b held r → IfSome left (λ l. EndsAs codec head held (BadScript n) (onward codec head m l ((n, Up k) ∷ more) r))
+  pub up_bad : (n k m : ℕ) (more : List Numbered) (left held : Option (List ℕ)) (b : WorldParts S) (r : Run S) → is_number k (length (acks r.world)) ≡ false → IsRunning codec head b held r → IfSome left (λ l. EndsAs codec head held (BadScript n) (onward codec head m l ((n, Up k) ∷ more) r))
   up_bad n k m more None held b r e is = tt
   up_bad n k m more (Some l) held b r e is =
       let q : Run S = record r { left = (clip_in head m l).pictures } in
       ends_here held r q _ (BadScript n) (up_unrun n k more q (clip_in head m l).fault e) refl is.shown
 
-  pub comes_at : (gives : DiaryFault → Bool) (b : Both S) (d u : Marks) (held : Option (List ℕ)) (f : ℕ → Run S → Run S) (k' k : ℕ) (q : Run S) (result : Result (Unit {0}) Stop) → k' ≡ k → Comes codec head gives b d u held (f k' q) result → Comes codec head gives b d u held (f k q) result
+  pub comes_at : (gives : DiaryFault → Bool) (b : WorldParts S) (d u : Marks) (held : Option (List ℕ)) (f : ℕ → Run S → Run S) (k' k : ℕ) (q : Run S) (result : Result (Unit {0}) Stop) → k' ≡ k → Comes codec head gives b d u held (f k' q) result → Comes codec head gives b d u held (f k q) result
   comes_at gives b d u held f k' k q result e p = subst (λ (x : ℕ). Comes codec head gives b d u held (f x q) result) e p

@@ -64,7 +64,7 @@ kept_promises {S = S} codec law head lines bytes narrow =
     let is : IsRun codec session (clip_run codec head bytes lines).0 = ended_run codec session clip.fault lines (begun clip.pictures) (begun_run codec session clip.pictures (clip_sizes head narrow.sides bytes)) in
     record {
       world = is.world;
-      holds = λ later before e names. all_interleavings codec session law (narrow_session head narrow) before (later_each (IsOfSize session) later before (subst (Each (IsOfSize session)) e is.sizes)) names;
+      holds = λ later before e. all_interleavings codec session law (narrow_session head narrow) before (later_each (IsOfSize session) later before (subst (Each (IsOfSize session)) e is.sizes));
     }
 
 -- what holds of all bytes holds where they are told

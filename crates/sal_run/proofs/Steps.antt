@@ -1,5 +1,5 @@
 -- What one event makes of a run.
-use Rattle.std.proofs.Common.{◌≡◌, ℕ, ◌+◌, ◌≤◌, Bool, true, false, List, [], ◌∷◌, ◌++◌, length, take, reverse, Option, Some, None, Result, Ok, Err, is_some, IfSome, refl, ap, sym, ◌∙◌, subst, append-nil, append_assoc}
+use Rattle.std.proofs.Common.{◌≡◌, ℕ, ◌+◌, ◌≤◌, Bool, true, false, List, [], ◌∷◌, ◌++◌, length, take, reverse, Option, Some, None, Result, Ok, Err, is_some, IfSome, refl, ap, sym, ◌∙◌, subst, append-nil, append_assoc, inl, inr}
 use Rattle.std.specs.List.{flat_map}
 use Rattle.std.specs.Result.{IsErrAnd}
 use Rattle.std.specs.Io.KnownBytes.{Appends}
@@ -13,24 +13,22 @@ use Rattle.sal_y4m.specs.declared.head.Head.{Head}
 use Rattle.sal_y4m.specs.Grammar.{head_text, picture_text}
 use Rattle.sal_receiver.specs.declared.answers.Done.{Done}
 use Rattle.sal_receiver.specs.declared.answers.Done.TheVariants.{Stranger, Returned, Unfit, Misnamed, Older, Show}
-use Rattle.sal_receiver.specs.Past.{Outcome, Decoding, shown}
-use Rattle.sal_receiver.specs.Ready.{ready, frame, decoding_of}
+use Rattle.sal_receiver.specs.Past.{DecodeResult, Decoding, shown}
+use Rattle.sal_receiver.specs.Ready.{ready_source, frame, decoding_of}
 use Rattle.sal_receiver.specs.Answers.{decoded_answer}
-use Rattle.sal_world.specs.declared.event.Answer.{Answer}
-use Rattle.sal_world.specs.declared.event.Answer.TheVariants.{Decoded as DecodedSaid}
-use Rattle.sal_world.specs.Both.{Both}
-use Rattle.sal_world.specs.World.{Event, Next, Take, Reports, Chooses, Down, Up, Ready, Decodes, Moment, World, sent, acks, member, delivers, hears, happens, after}
-use Rattle.sal_world.specs.Answers.{answer_to}
-use Rattle.sal_world.specs.Stands.{Stands}
+use Rattle.sal_world.specs.WorldParts.{WorldParts}
+use Rattle.sal_world.specs.World.{WorldEvent, Starts, TakesJob, Reports, Chooses, Delivers, Hears, TakesReady, Decodes, Passes, WorldPast, sent, acks, at_number, delivered_if_sent, heard_if_sent, happens, after}
+use Rattle.sal_world.specs.Answers.{done_answer}
+use Rattle.sal_world.specs.Stands.{Stands, HappenedUnless}
 use Rattle.sal_world.specs.Script.{Run, with_event}
-use Rattle.sal_run.specs.declared.diary.DiaryFault.{DiaryFault}
+use Rattle.sal_world.specs.declared.diary.DiaryFault.{DiaryFault}
 use Rattle.sal_run.specs.declared.stop.Stop.{Stop}
 use Rattle.sal_run.specs.declared.stop.Stop.TheVariants.{BadInput, BadScript, TooMany, TooLong, ReadFault, Out, Diary, Memory}
 use Rattle.sal_run.specs.Loop.{session_of, shown_text, out_text}
 use Rattle.sal_run.specs.Running.{text_of, Shows, IsNoted, IsRunning, PartlyOf, CutOf, Stopped, Goes}
 
 -- any event but a decoding
-abbrev pub IsNoDecoding : Event → Type 0
+abbrev pub IsNoDecoding : WorldEvent → Type 0
 IsNoDecoding (Decodes n ran) = ⊥
 IsNoDecoding _ = Unit {0}
 
@@ -38,35 +36,40 @@ not_told : false ≡ true → ⊥
 not_told e = absurd cc
 
 module _ {S : Type 0} (codec : Coding S) (head : Head) where
-  abbrev then_world : World S → Event → World S
+  abbrev then_world : WorldPast S → WorldEvent → WorldPast S
   then_world w e = happens codec (session_of head) w e
 
-  quiet_down : (w : World S) (o : Option (List ℕ)) → shown (delivers codec w o).receiver ≡ shown w.receiver
+  quiet_down : (w : WorldPast S) (o : Option (List ℕ)) → shown (delivered_if_sent codec w o).receiver ≡ shown w.receiver
   quiet_down w None = refl
   quiet_down w (Some bytes) = refl
 
-  quiet_up : (w : World S) (o : Option Ack) → shown (hears codec (session_of head) w o).receiver ≡ shown w.receiver
+  quiet_up : (w : WorldPast S) (o : Option Ack) → shown (heard_if_sent codec (session_of head) w o).receiver ≡ shown w.receiver
   quiet_up w None = refl
   quiet_up w (Some ack) = refl
 
   -- nothing is shown but by a decoding
-  quiet : (w : World S) (e : Event) → IsNoDecoding e → shown (then_world w e).receiver ≡ shown w.receiver
-  quiet w (Next picture) h = refl
-  quiet w Take h = refl
-  quiet w (Reports job ran) h = refl
+  quiet : (w : WorldPast S) (e : WorldEvent) → IsNoDecoding e → shown (then_world w e).receiver ≡ shown w.receiver
+  quiet w (Starts picture) h = refl
+  quiet w TakesJob h = refl
+  quiet w (Reports job gave) h = refl
   quiet w Chooses h = refl
-  quiet w (Down which) h = quiet_down w (member (sent w) which)
-  quiet w (Up which) h = quiet_up w (member (acks w) which)
-  quiet w Ready h = refl
+  quiet w (Delivers which) h = quiet_down w (at_number (sent w) which)
+  quiet w (Hears which) h = quiet_up w (at_number (acks w) which)
+  quiet w TakesReady h = refl
   quiet w (Decodes n ran) h = absurd h
-  quiet w (Moment moment) h = refl
+  quiet w (Passes moment) h = refl
 
-  still : (held : Option (List ℕ)) (w : World S) (e : Event) → IsNoDecoding e → IfSome held (λ o. o ≡ out_text head w) → IfSome held (λ o. o ≡ out_text head (then_world w e))
+  still : (held : Option (List ℕ)) (w : WorldPast S) (e : WorldEvent) → IsNoDecoding e → IfSome held (λ o. o ≡ out_text head w) → IfSome held (λ o. o ≡ out_text head (then_world w e))
   still None w e h p = tt
   still (Some o) w e h p = p ∙ ap (λ (s : List (ℕ × Picture)). head_text head ++ flat_map shown_text (reverse s)) (sym (quiet w e h))
 
+  -- where there was memory for an event, it happened
+  pub did_stand : {A : Type 0} (lacking answer right : A) (new : WorldParts S) (events : List WorldEvent) (e : WorldEvent) → (answer ≡ lacking → ⊥) → HappenedUnless codec (session_of head) lacking new events e answer right → Stands codec (session_of head) new (e ∷ events)
+  did_stand lacking answer right new events e never (inl h) = absurd (never h)
+  did_stand lacking answer right new events e never (inr did) = did.1
+
   -- one event more that shows nothing
-  pub running_next : (b new : Both S) (held : Option (List ℕ)) (r : Run S) (e : Event) → IsNoDecoding e → IsRunning codec head b held r → Stands codec (session_of head) new (e ∷ r.events) → IsRunning codec head new held (with_event codec (session_of head) e r)
+  pub running_next : (b new : WorldParts S) (held : Option (List ℕ)) (r : Run S) (e : WorldEvent) → IsNoDecoding e → IsRunning codec head b held r → Stands codec (session_of head) new (e ∷ r.events) → IsRunning codec head new held (with_event codec (session_of head) e r)
   unfolding after
   running_next b new held r e h is stands = record {
     stands = stands;
@@ -74,24 +77,24 @@ module _ {S : Type 0} (codec : Coding S) (head : Head) where
     shown = still held r.world e h is.shown;
   }
 
-  pub partly : (b : Both S) (held : Option (List ℕ)) (r : Run S) (events later : List Event) → IsRunning codec head b held r → events ≡ later ++ r.events → IfSome held (PartlyOf codec head events)
+  pub partly : (b : WorldParts S) (held : Option (List ℕ)) (r : Run S) (events later : List WorldEvent) → IsRunning codec head b held r → events ≡ later ++ r.events → IfSome held (PartlyOf codec head events)
   partly b None r events later is e = tt
   partly b (Some o) r events later is e = (later, (r.events, e, is.shown ∙ ap (λ w. out_text head w) is.world))
 
-  partly_later : (o : List ℕ) (events all later : List Event) → all ≡ later ++ events → PartlyOf codec head events o → PartlyOf codec head all o
+  partly_later : (o : List ℕ) (events all later : List WorldEvent) → all ≡ later ++ events → PartlyOf codec head events o → PartlyOf codec head all o
   partly_later o events all later e p = (later ++ p.0, (p.1.0, e ∙ (ap (λ es. later ++ es) p.1.1 ∙ sym (append_assoc later p.0 p.1.0)), p.1.2))
 
-  if_later : (held : Option (List ℕ)) (events all later : List Event) → all ≡ later ++ events → IfSome held (PartlyOf codec head events) → IfSome held (PartlyOf codec head all)
+  if_later : (held : Option (List ℕ)) (events all later : List WorldEvent) → all ≡ later ++ events → IfSome held (PartlyOf codec head events) → IfSome held (PartlyOf codec head all)
   if_later None events all later e p = tt
   if_later (Some o) events all later e p = partly_later o events all later e p
 
-  cut_later : (held : Option (List ℕ)) (events all later : List Event) → all ≡ later ++ events → IfSome held (CutOf codec head events) → IfSome held (CutOf codec head all)
+  cut_later : (held : Option (List ℕ)) (events all later : List WorldEvent) → all ≡ later ++ events → IfSome held (CutOf codec head events) → IfSome held (CutOf codec head all)
   cut_later None events all later e p = tt
   cut_later (Some o) events all later e p = (p.0, (p.1.0, partly_later p.1.0 events all later e p.1.1, p.1.2))
 
   module _ (gives : DiaryFault → Bool) where
     -- what stops some events stops more
-    pub stopped_later : (held : Option (List ℕ)) (events all later : List Event) (stop : Stop) → all ≡ later ++ events → Stopped codec head gives held events stop → Stopped codec head gives held all stop
+    pub stopped_later : (held : Option (List ℕ)) (events all later : List WorldEvent) (stop : Stop) → all ≡ later ++ events → Stopped codec head gives held events stop → Stopped codec head gives held all stop
     stopped_later held events all later (BadInput place why) e p = p
     stopped_later held events all later (BadScript line) e p = p
     stopped_later held events all later TooMany e p = p
@@ -101,10 +104,10 @@ module _ {S : Type 0} (codec : Coding S) (head : Head) where
     stopped_later held events all later (Diary fault) e p = (p.0, if_later held events all later e p.1)
     stopped_later held events all later Memory e p = if_later held events all later e p
 
-    pub memory_stops : (b : Both S) (held : Option (List ℕ)) (r : Run S) (events later : List Event) (stop : Stop) → stop ≡ Memory → IsRunning codec head b held r → events ≡ later ++ r.events → Stopped codec head gives held events stop
+    pub memory_stops : (b : WorldParts S) (held : Option (List ℕ)) (r : Run S) (events later : List WorldEvent) (stop : Stop) → stop ≡ Memory → IsRunning codec head b held r → events ≡ later ++ r.events → Stopped codec head gives held events stop
     memory_stops b held r events later stop e is same = subst (λ s. Stopped codec head gives held events s) (sym e) (partly b held r events later is same)
 
-    pub noted_stops : (b : Both S) (held : Option (List ℕ)) (r : Run S) (events later : List Event) (stop : Stop) → IsNoted gives (Err stop) → IsRunning codec head b held r → events ≡ later ++ r.events → Stopped codec head gives held events stop
+    pub noted_stops : (b : WorldParts S) (held : Option (List ℕ)) (r : Run S) (events later : List WorldEvent) (stop : Stop) → IsNoted gives (Err stop) → IsRunning codec head b held r → events ≡ later ++ r.events → Stopped codec head gives held events stop
     noted_stops b held r events later (BadInput place why) h is e = absurd h
     noted_stops b held r events later (BadScript line) h is e = absurd h
     noted_stops b held r events later TooMany h is e = absurd h
@@ -115,25 +118,25 @@ module _ {S : Type 0} (codec : Coding S) (head : Head) where
     noted_stops b held r events later Memory h is e = absurd h
 
     -- the line of what happened is given last
-    pub goes_noted : (b : Both S) (held : Option (List ℕ)) (r : Run S) (result : Result (Unit {0}) Stop) → IsNoted gives result → IsRunning codec head b held r → Goes codec head gives b held r result
+    pub goes_noted : (b : WorldParts S) (held : Option (List ℕ)) (r : Run S) (result : Result (Unit {0}) Stop) → IsNoted gives result → IsRunning codec head b held r → Goes codec head gives b held r result
     goes_noted b held r (Ok x) h is = is
     goes_noted b held r (Err stop) h is = noted_stops b held r r.events [] stop h is refl
 
-    pub goes_exit : {X : Type 0} (b : Both S) (held : Option (List ℕ)) (r : Run S) (result : Result X Stop) (stop : Stop) → IsErrAnd result (λ e. e ≡ stop) → Stopped codec head gives held r.events stop → Goes codec head gives b held r result
+    pub goes_exit : {X : Type 0} (b : WorldParts S) (held : Option (List ℕ)) (r : Run S) (result : Result X Stop) (stop : Stop) → IsErrAnd result (λ e. e ≡ stop) → Stopped codec head gives held r.events stop → Goes codec head gives b held r result
     goes_exit b held r (Ok x) stop h p = absurd h
     goes_exit b held r (Err e) stop h p = subst (λ s. Stopped codec head gives held r.events s) (sym h) p
 
     -- there was no memory for an event
-    pub step_exit : {X : Type 0} (b new : Both S) (held : Option (List ℕ)) (r : Run S) (e : Event) (result : Result X Stop) (stop : Stop) → IsErrAnd result (λ s. s ≡ stop) → stop ≡ Memory → IsRunning codec head b held r → Goes codec head gives new held (with_event codec (session_of head) e r) result
-    step_exit b new held r e result stop h is_memory is = goes_exit new held (with_event codec (session_of head) e r) result stop h (memory_stops b held r (e ∷ r.events) (e ∷ []) stop is_memory is refl)
+    pub lacking_stops : (b : WorldParts S) (held : Option (List ℕ)) (r : Run S) (e : WorldEvent) → IsRunning codec head b held r → Stopped codec head gives held (e ∷ r.events) Memory
+    lacking_stops b held r e is = memory_stops b held r (e ∷ r.events) (e ∷ []) Memory refl is refl
 
     -- the line of an event wasn't given
-    pub note_exit : {X : Type 0} (b new : Both S) (held : Option (List ℕ)) (r : Run S) (e : Event) (result : Result X Stop) (stop : Stop) → IsErrAnd result (λ s. s ≡ stop) → IsNoted gives (Err stop) → IsRunning codec head b held r → Goes codec head gives new held (with_event codec (session_of head) e r) result
+    pub note_exit : {X : Type 0} (b new : WorldParts S) (held : Option (List ℕ)) (r : Run S) (e : WorldEvent) (result : Result X Stop) (stop : Stop) → IsErrAnd result (λ s. s ≡ stop) → IsNoted gives (Err stop) → IsRunning codec head b held r → Goes codec head gives new held (with_event codec (session_of head) e r) result
     note_exit b new held r e result stop h noted is = goes_exit new held (with_event codec (session_of head) e r) result stop h (noted_stops b held r (e ∷ r.events) (e ∷ []) stop noted is refl)
 
   -- ---- a decoding
 
-  shown_more : (w : World S) (n : ℕ) (outcome : Outcome S) (done : Done) → out_text head (record w { receiver = Decoding n outcome done ∷ w.receiver }) ≡ out_text head w ++ text_of done
+  shown_more : (w : WorldPast S) (n : ℕ) (outcome : DecodeResult S) (done : Done) → out_text head (record w { receiver = Decoding n outcome done ∷ w.receiver }) ≡ out_text head w ++ text_of done
   shown_more w n outcome Stranger = sym (append-nil (out_text head w))
   shown_more w n outcome (Returned k) = sym (append-nil (out_text head w))
   shown_more w n outcome (Unfit k why) = sym (append-nil (out_text head w))
@@ -148,8 +151,8 @@ module _ {S : Type 0} (codec : Coding S) (head : Head) where
       ∙ (ap (λ (t : List ℕ). head_text head ++ (flat_map shown_text (reverse all) ++ t)) last
       ∙ sym (append_assoc (head_text head) (flat_map shown_text (reverse all)) (picture_text picture))))
 
-  decoded_text : (w : World S) (n : ℕ) (done : Done) → done ≡ decoded_answer codec w.receiver n (decoding_of codec (ready codec w.receiver n) (frame w.receiver n) true) → out_text head (then_world w (Decodes n true)) ≡ out_text head w ++ text_of done
-  decoded_text w n done e = shown_more w n (decoding_of codec (ready codec w.receiver n) (frame w.receiver n) true) _ ∙ ap (λ d. out_text head w ++ text_of d) (sym e)
+  decoded_text : (w : WorldPast S) (n : ℕ) (done : Done) → done ≡ decoded_answer codec w.receiver n (decoding_of codec (ready_source codec w.receiver n) (frame w.receiver n) true) → out_text head (then_world w (Decodes n true)) ≡ out_text head w ++ text_of done
+  decoded_text w n done e = shown_more w n (decoding_of codec (ready_source codec w.receiver n) (frame w.receiver n) true) _ ∙ ap (λ d. out_text head w ++ text_of d) (sym e)
 
   module _ (gives : DiaryFault → Bool) where
     written : (held held' : Option (List ℕ)) (text old new : List ℕ) → is_some held' ≡ is_some held → new ≡ old ++ text → IfSome held (λ o. o ≡ old) → Appends held held' text → IfSome held' (λ o. o ≡ new)
@@ -157,7 +160,7 @@ module _ {S : Type 0} (codec : Coding S) (head : Head) where
     written None (Some o) text old new tells e p put = absurd (not_told (sym tells))
     written (Some z) (Some o) text old new tells e p put = put ∙ (ap (λ (l : List ℕ). l ++ text) p ∙ sym e)
 
-    cut : (held held' : Option (List ℕ)) (text old new : List ℕ) (events : List Event) → is_some held' ≡ is_some held → new ≡ old ++ text → new ≡ out_text head (after codec (session_of head) events) → IfSome held (λ o. o ≡ old)
+    cut : (held held' : Option (List ℕ)) (text old new : List ℕ) (events : List WorldEvent) → is_some held' ≡ is_some held → new ≡ old ++ text → new ≡ out_text head (after codec (session_of head) events) → IfSome held (λ o. o ≡ old)
         → ((n : ℕ) × (n ≤ length text) × Appends held held' (take n text)) → IfSome held' (CutOf codec head events)
     cut held None text old new events tells e last p put = tt
     cut None (Some o) text old new events tells e last p put = absurd (not_told (sym tells))
@@ -166,7 +169,7 @@ module _ {S : Type 0} (codec : Coding S) (head : Head) where
         put.2 ∙ (ap (λ (l : List ℕ). l ++ take put.0 text) p ∙ (sym (take-append-add old text put.0) ∙ ap (take (length old + put.0)) (sym e))) in
         (length old + put.0, (new, ([], (events, refl, last)), front))
 
-    did_show : (b new : Both S) (held held' : Option (List ℕ)) (r s : Run S) (text : List ℕ) (later : List Event) (result : Result (Unit {0}) Stop) → is_some held' ≡ is_some held → IsRunning codec head b held r
+    did_show : (b new : WorldParts S) (held held' : Option (List ℕ)) (r s : Run S) (text : List ℕ) (later : List WorldEvent) (result : Result (Unit {0}) Stop) → is_some held' ≡ is_some held → IsRunning codec head b held r
         → Stands codec (session_of head) new s.events → s.world ≡ after codec (session_of head) s.events → out_text head s.world ≡ out_text head r.world ++ text → s.events ≡ later ++ r.events → Shows gives held held' text result → Goes codec head gives new held' s result
     did_show b new held held' r s text later (Ok x) tells is stands world more events p = record { stands = stands; world = world; shown = written held held' text (out_text head r.world) (out_text head s.world) tells more is.shown p }
     did_show b new held held' r s text later (Err (BadInput place why)) tells is stands world more events p = absurd p
@@ -179,14 +182,14 @@ module _ {S : Type 0} (codec : Coding S) (head : Head) where
     did_show b new held held' r s text later (Err Memory) tells is stands world more events p = absurd p
 
     -- a decoding of a frame that was handed out, for which there was memory
-    pub decoded_goes : {C : Type 0} (b new : Both S) (held held' : Option (List ℕ)) (r : Run S) (n : ℕ) (ran : Bool) (done : Done) (result : Result (Unit {0}) Stop) → is_some held' ≡ is_some held → ran ≡ true → IsRunning codec head b held r
-        → ◌≡◌ {A = Answer C S} (DecodedSaid done) (answer_to codec (session_of head) (after codec (session_of head) r.events) (Decodes n ran)) → Stands codec (session_of head) new (Decodes n ran ∷ r.events) → Shows gives held held' (text_of done) result
+    pub decoded_goes : (b new : WorldParts S) (held held' : Option (List ℕ)) (r : Run S) (n : ℕ) (ran : Bool) (done : Done) (result : Result (Unit {0}) Stop) → is_some held' ≡ is_some held → ran ≡ true → IsRunning codec head b held r
+        → done ≡ done_answer codec (session_of head) (after codec (session_of head) r.events) n ran → Stands codec (session_of head) new (Decodes n ran ∷ r.events) → Shows gives held held' (text_of done) result
         → Goes codec head gives new held' (with_event codec (session_of head) (Decodes n true) r) result
     unfolding after
     decoded_goes b new held held' r n false done result tells e is said stands p = absurd cc
     decoded_goes b new held held' r n true done result tells e is said stands p =
-        let at : World S = after codec (session_of head) r.events in
-        let same : done ≡ decoded_answer codec at.receiver n (decoding_of codec (ready codec at.receiver n) (frame at.receiver n) true) = cc in
-        let here : done ≡ decoded_answer codec r.world.receiver n (decoding_of codec (ready codec r.world.receiver n) (frame r.world.receiver n) true) =
-        same ∙ ap (λ (w : World S). decoded_answer codec w.receiver n (decoding_of codec (ready codec w.receiver n) (frame w.receiver n) true)) (sym is.world) in
+        let at : WorldPast S = after codec (session_of head) r.events in
+        let same : done ≡ decoded_answer codec at.receiver n (decoding_of codec (ready_source codec at.receiver n) (frame at.receiver n) true) = said in
+        let here : done ≡ decoded_answer codec r.world.receiver n (decoding_of codec (ready_source codec r.world.receiver n) (frame r.world.receiver n) true) =
+        same ∙ ap (λ (w : WorldPast S). decoded_answer codec w.receiver n (decoding_of codec (ready_source codec w.receiver n) (frame w.receiver n) true)) (sym is.world) in
         did_show b new held held' r (with_event codec (session_of head) (Decodes n true) r) (text_of done) (Decodes n true ∷ []) result tells is stands (ap (λ w. happens codec (session_of head) w (Decodes n true)) is.world) (decoded_text r.world n done here) refl p

@@ -5,10 +5,10 @@ use Rattle.sal_codec.specs.Coding.{Coding}
 use Rattle.sal_y4m.specs.declared.head.Head.{Head}
 use Rattle.sal_script.specs.declared.line.ScriptLine.TheVariants.{Rest}
 use Rattle.sal_script.specs.Numbered.{Numbered}
-use Rattle.sal_world.specs.World.{Event, Next, after}
-use Rattle.sal_world.specs.Promises.{Names, Holds, NothingIsLeft, AllIsServed}
-use Rattle.sal_run.specs.declared.diary.DiaryFault.{DiaryFault}
-use Rattle.sal_run.specs.declared.diary.DiaryFault.TheVariants as diary
+use Rattle.sal_world.specs.World.{WorldEvent, Starts, after}
+use Rattle.sal_world.specs.Promises.{NamesDifferIn, Promises, NothingIsLeft, AllIsServed}
+use Rattle.sal_world.specs.declared.diary.DiaryFault.{DiaryFault}
+use Rattle.sal_world.specs.declared.diary.DiaryFault.TheVariants as diary
 use Rattle.sal_run.specs.declared.end.Which.TheVariants.{Out, Journal, Pictures, Script}
 use Rattle.sal_run.specs.declared.end.RunEnd.{RunEnd}
 use Rattle.sal_run.specs.declared.end.RunEnd.TheVariants as run
@@ -16,11 +16,11 @@ use Rattle.sal_run.specs.Clip.{End, Done, BadInput, BadScript, TooMany, TooLong}
 use Rattle.sal_run.specs.Loop.{session_of, out_text, clip_run}
 
 -- no event came after these, or the next one started a picture
-abbrev pub IsAtNext : List Event → Type 0
-IsAtNext later = (later ≡ []) ⊎ ((picture : Picture) × ((more : List Event) × (later ≡ more ++ Next picture ∷ [])))
+abbrev pub IsAtNext : List WorldEvent → Type 0
+IsAtNext later = (later ≡ []) ⊎ ((picture : Picture) × ((more : List WorldEvent) × (later ≡ more ++ Starts picture ∷ [])))
 
 -- these events are all those of the lines up to a `rest`, where the events of lines are these
-abbrev pub IsAtRest : (List Numbered → List Event) → List Numbered → List Event → Type 0
+abbrev pub IsAtRest : (List Numbered → List WorldEvent) → List Numbered → List WorldEvent → Type 0
 IsAtRest events lines before =
     (first : List Numbered) × ((number : ℕ) × ((others : List Numbered) × (lines ≡ first ++ (number, Rest) ∷ others) × (before ≡ events (first ++ (number, Rest) ∷ []))))
 
@@ -30,21 +30,21 @@ module _ {S : Type 0} (codec : Coding S) (head : Head) (lines : List Numbered) w
   Ends end i out = ((clip_run codec head i lines).1 ≡ end) × IfSome out (λ o. o ≡ out_text head (clip_run codec head i lines).0.world)
 
   -- these events, the newest first, are the last ones and those before them of the run
-  abbrev pub AreEvents : List ℕ → List Event → List Event → Type 0
+  abbrev pub AreEvents : List ℕ → List WorldEvent → List WorldEvent → Type 0
   AreEvents i later before = (clip_run codec head i lines).0.events ≡ later ++ before
 
   -- what the output holds after these events
-  abbrev pub text_after : List Event → List ℕ
+  abbrev pub text_after : List WorldEvent → List ℕ
   text_after events = out_text head (after codec (session_of head) events)
 
   -- the output holds the header and the pictures shown by the events before
   abbrev pub Partly : List ℕ → List ℕ → Type 0
-  Partly i o = (later : List Event) × ((before : List Event) × AreEvents i later before × (o ≡ text_after before))
+  Partly i o = (later : List WorldEvent) × ((before : List WorldEvent) × AreEvents i later before × (o ≡ text_after before))
 
   -- the same, of the events before a picture is started, of all events of the lines up to a `rest`, or of all
   abbrev pub UpToNext : List ℕ → List ℕ → Type 0
   UpToNext i o =
-      (later : List Event) × ((before : List Event) × AreEvents i later before × (IsAtNext later ⊎ IsAtRest (λ ls. (clip_run codec head i ls).0.events) lines before) × (o ≡ text_after before))
+      (later : List WorldEvent) × ((before : List WorldEvent) × AreEvents i later before × (IsAtNext later ⊎ IsAtRest (λ ls. (clip_run codec head i ls).0.events) lines before) × (o ≡ text_after before))
 
   -- the output holds a front of that
   abbrev pub Cut : List ℕ → List ℕ → Type 0
@@ -76,18 +76,16 @@ module _ {S : Type 0} (codec : Coding S) (head : Head) (lines : List Numbered) w
   RunGives gives (run.WriteFault Script) i o = ⊥
   RunGives gives run.Memory i o = ToldBoth i o PartlyOrNot
 
-  -- the world of the run is that after its events, and after any of them the promises of both ends hold, where names differ
+  -- the world of the run is that after its events, and after any of them all promises of both ends hold
   pub record KeepsPromises (i : List ℕ) : Type 0 where
     pub world : (clip_run codec head i lines).0.world ≡ after codec (session_of head) (clip_run codec head i lines).0.events
-    pub holds :
-        (later before : List Event) → AreEvents i later before → Names codec (after codec (session_of head) before)
-        → Holds codec (session_of head) (after codec (session_of head) before)
+    pub holds : (later before : List WorldEvent) → AreEvents i later before → Promises codec (session_of head) (after codec (session_of head) before)
 
 -- the run of these lines leaves no frame that waits to be decoded or is out; where names differ, each frame that was ready was then
--- shown, or a number at least as great was
+-- shown, or a number at least as great was shown before
 pub record LeavesNothing {S : Type 0} (codec : Coding S) (head : Head) (lines : List Numbered) (bytes : List ℕ) : Type 0 where
   pub left : NothingIsLeft codec (clip_run codec head bytes lines).0.world.receiver
-  pub served : Names codec (clip_run codec head bytes lines).0.world → AllIsServed codec (clip_run codec head bytes lines).0.world.receiver
+  pub served : NamesDifferIn codec (clip_run codec head bytes lines).0.world → AllIsServed codec (clip_run codec head bytes lines).0.world.receiver
 
 -- what was read is read to its end where all went well
 abbrev pub AtEnd : RunEnd → Option (List ℕ) → Type 0

@@ -12,7 +12,7 @@ use Rattle.sal_script.specs.Numbered.{Numbered}
 use Rattle.sal_script.specs.Script.{script_of}
 use Rattle.sal_sender.specs.OneThread.{Session}
 use Rattle.sal_receiver.specs.Past.{shown}
-use Rattle.sal_world.specs.World.{World}
+use Rattle.sal_world.specs.World.{WorldPast}
 use Rattle.sal_world.specs.Script.{Run, begun, line}
 use Rattle.sal_run.specs.Clip.{End, Done, BadInput, BadScript, clip_at}
 
@@ -35,7 +35,7 @@ abbrev pub shown_text : ℕ × Picture → List ℕ
 shown_text s = picture_text s.1
 
 -- the header and all pictures shown, in the order in which they were
-abbrev pub out_text : {S : Type 0} → Head → World S → List ℕ
+abbrev pub out_text : {S : Type 0} → Head → WorldPast S → List ℕ
 out_text head w = head_text head ++ flat_map shown_text (reverse (shown w.receiver))
 
 module _ {S : Type 0} where

@@ -1,19 +1,16 @@
 -- Where a run stands, and how a step of it stops.
-use Rattle.std.specs.Prelude.{◌≡◌, ◌≤◌, ℕ, List, [], ◌∷◌, ◌++◌, length, take, Bool, true, Option, IfSome, Result, Ok, Err}
+use Rattle.std.specs.Prelude.{◌≡◌, ◌≤◌, ℕ, List, [], ◌++◌, length, take, Bool, true, Option, IfSome, Result, Ok, Err}
 use Rattle.std.specs.Io.KnownBytes.{Appends}
 use Rattle.sal_codec.specs.Coding.{Coding}
 use Rattle.sal_y4m.specs.declared.head.Head.{Head}
 use Rattle.sal_y4m.specs.Grammar.{picture_text}
-use Rattle.sal_sender.specs.OneThread.{Session}
 use Rattle.sal_receiver.specs.declared.answers.Done.{Done}
 use Rattle.sal_receiver.specs.declared.answers.Done.TheVariants.{Show}
-use Rattle.sal_world.specs.declared.event.Answer.{Answer}
-use Rattle.sal_world.specs.Both.{Both}
-use Rattle.sal_world.specs.World.{Event, after}
-use Rattle.sal_world.specs.Answers.{answer_to}
+use Rattle.sal_world.specs.WorldParts.{WorldParts}
+use Rattle.sal_world.specs.World.{WorldEvent, after}
 use Rattle.sal_world.specs.Stands.{Stands}
 use Rattle.sal_world.specs.Script.{Run, downs_in, ups_in}
-use Rattle.sal_run.specs.declared.diary.DiaryFault.{DiaryFault}
+use Rattle.sal_world.specs.declared.diary.DiaryFault.{DiaryFault}
 use Rattle.sal_run.specs.declared.stop.Stop.{Stop}
 use Rattle.sal_run.specs.declared.stop.Stop.TheVariants.{Out, Diary, Memory}
 use Rattle.sal_run.specs.Loop.{session_of, out_text}
@@ -38,11 +35,6 @@ Opened old new text (Ok x) = Appends old new text
 Opened old new text (Err Out) = (n : ℕ) × (n ≤ length text) × Appends old new (take n text)
 Opened old new text (Err _) = ⊥
 
--- an event happened and was answered as it is, or there was no memory for it
-abbrev pub Did : {C S : Type 0} → Coding S → Session → Both S → List Event → Event → Result (Answer C S) Stop → Type 0
-Did codec session new events event (Ok answer) = (answer ≡ answer_to codec session (after codec session events) event) × Stands codec session new (event ∷ events)
-Did codec session new events event (Err stop) = stop ≡ Memory
-
 -- a line was given, or this is the fault that the diary gave
 abbrev pub IsNoted : (DiaryFault → Bool) → Result (Unit {0}) Stop → Type 0
 IsNoted gives (Ok x) = Unit {0}
@@ -51,37 +43,37 @@ IsNoted gives (Err _) = ⊥
 
 module _ {S : Type 0} (codec : Coding S) (head : Head) where
   -- the world stands for the events of a run, and the output holds the header and the pictures shown
-  pub record IsRunning (b : Both S) (held : Option (List ℕ)) (r : Run S) : Type 0 where
+  pub record IsRunning (b : WorldParts S) (held : Option (List ℕ)) (r : Run S) : Type 0 where
     pub stands : Stands codec (session_of head) b r.events
     pub world : r.world ≡ after codec (session_of head) r.events
     pub shown : IfSome held (λ o. o ≡ out_text head r.world)
 
   -- the output holds what some of these events make it hold, before the others
-  abbrev pub PartlyOf : List Event → List ℕ → Type 0
-  PartlyOf events o = (later : List Event) × ((before : List Event) × (events ≡ later ++ before) × (o ≡ out_text head (after codec (session_of head) before)))
+  abbrev pub PartlyOf : List WorldEvent → List ℕ → Type 0
+  PartlyOf events o = (later : List WorldEvent) × ((before : List WorldEvent) × (events ≡ later ++ before) × (o ≡ out_text head (after codec (session_of head) before)))
 
   -- the output holds a front of that
-  abbrev pub CutOf : List Event → List ℕ → Type 0
+  abbrev pub CutOf : List WorldEvent → List ℕ → Type 0
   CutOf events o = (n : ℕ) × ((whole : List ℕ) × PartlyOf events whole × (o ≡ take n whole))
 
   -- how a step stops that these events are of: at want of memory, at a fault of the diary or at one of the output
-  abbrev pub Stopped : (DiaryFault → Bool) → Option (List ℕ) → List Event → Stop → Type 0
+  abbrev pub Stopped : (DiaryFault → Bool) → Option (List ℕ) → List WorldEvent → Stop → Type 0
   Stopped gives held events Out = IfSome held (CutOf events)
   Stopped gives held events (Diary fault) = (gives fault ≡ true) × IfSome held (PartlyOf events)
   Stopped gives held events Memory = IfSome held (PartlyOf events)
   Stopped gives held events _ = ⊥
 
   -- a step made this of a run, or stopped
-  abbrev pub Goes : {X : Type 0} → (DiaryFault → Bool) → Both S → Option (List ℕ) → Run S → Result X Stop → Type 0
+  abbrev pub Goes : {X : Type 0} → (DiaryFault → Bool) → WorldParts S → Option (List ℕ) → Run S → Result X Stop → Type 0
   Goes gives b held r (Ok x) = IsRunning b held r
   Goes gives b held r (Err stop) = Stopped gives held r.events stop
 
   -- the same, with the numbers that the events named
-  pub record IsAt (b : Both S) (downs ups : Marks) (held : Option (List ℕ)) (r : Run S) : Type 0 where
+  pub record IsAt (b : WorldParts S) (downs ups : Marks) (held : Option (List ℕ)) (r : Run S) : Type 0 where
     pub running : IsRunning b held r
     pub downs_are : AreNamed downs_in r.events downs
     pub ups_are : AreNamed ups_in r.events ups
 
-  abbrev pub Comes : {X : Type 0} → (DiaryFault → Bool) → Both S → Marks → Marks → Option (List ℕ) → Run S → Result X Stop → Type 0
+  abbrev pub Comes : {X : Type 0} → (DiaryFault → Bool) → WorldParts S → Marks → Marks → Option (List ℕ) → Run S → Result X Stop → Type 0
   Comes gives b downs ups held r (Ok x) = IsAt b downs ups held r
   Comes gives b downs ups held r (Err stop) = Stopped gives held r.events stop

@@ -2,7 +2,7 @@
 use Rattle.std.specs.Prelude.{Result, Ok, Err}
 use Rattle.sal_y4m.specs.declared.fault.Y4mFault.{Y4mFault}
 use Rattle.sal_y4m.specs.declared.fault.Y4mFault.TheVariants as y4m
-use Rattle.sal_run.specs.declared.diary.DiaryFault.TheVariants as diary
+use Rattle.sal_world.specs.declared.diary.DiaryFault.TheVariants as diary
 use Rattle.sal_run.specs.declared.end.Which.TheVariants.{Out as OutFile, Journal}
 use Rattle.sal_run.specs.declared.end.RunEnd.{RunEnd}
 use Rattle.sal_run.specs.declared.end.RunEnd.TheVariants as run

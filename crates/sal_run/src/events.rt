@@ -1,32 +1,33 @@
 //! The events of a run, each with its line in the journal.
 
-ghost use Rattle.std.specs.Prelude.{◌≡◌, ◌≢◌, ◌∷◌, is_some, true, false, not, ℕ, List, Option, IfOk, IfErr, OnOk, Some, Ok, Err};
+ghost use Rattle.std.specs.Prelude.{◌≡◌, ◌≢◌, is_some, true, false, not, ℕ, List, Option, IsSome, IfOk, OnOk, Some, Ok, Err};
 ghost use Rattle.std.specs.Arc.{arc_value};
 ghost use Rattle.sal_io.specs.Calls.{HasCause};
 ghost use Rattle.sal_y4m.specs.declared.head.Head.{Head as HeadData};
-ghost use Rattle.sal_sender.specs.OneThread.{Session};
-ghost use Rattle.sal_world.specs.World.{Event as EventOf};
+ghost use Rattle.sal_sender.specs.JobWork.{encoded, given};
+ghost use Rattle.sal_world.specs.World.{WorldEvent};
 ghost use Rattle.sal_world.specs.Promises.{HasSize};
-ghost use Rattle.sal_world.specs.Answers.{said, did_decode};
-ghost use Rattle.sal_world.specs.Handed.{next_job, next_frame};
-ghost use Rattle.sal_world.specs.Stands.{Stands, May, WasHandedOut, WasReady};
+ghost use Rattle.sal_world.specs.Answers.{did_decode};
+ghost use Rattle.sal_world.specs.HandedOut.{next_job, next_frame};
+ghost use Rattle.sal_world.specs.Stands.{WasHandedOut, WasReady};
 ghost use Rattle.sal_world.specs.Script.{Run, with_event};
 ghost use Rattle.sal_run.specs.Loop.{session_of};
-ghost use Rattle.sal_run.specs.Running.{Did, IsNoted, IsRunning, Goes, Shows, text_of};
+ghost use Rattle.sal_run.specs.Running.{IsNoted, IsRunning, Goes, Shows, text_of};
 
-use crate::diary::{Diary, DiaryFault, Line};
-use crate::lines::{chosen_line, done_line, down_line, is_late, ready_line, size_of, up_line};
+use crate::lines::{
+    chosen_line, done_line, down_line, is_late, next_line, ready_line, size_of, up_line,
+};
 use crate::stop::Stop;
 use sal_base::Picture;
 use sal_codec::Codec;
 use sal_io::Sink;
-use sal_receiver::{Decoding, Done, Outcome, Ready};
-use sal_sender::{Job, Report};
-use sal_world::{Answer, Event, World};
+use sal_receiver::{DecodeOutcome, Decoding, Delivered, Done, Ready};
+use sal_sender::{Job, Next, Report};
+use sal_world::{ChooseAnswer, Diary, DiaryFault, Line, Unsent, World};
 use sal_y4m::Writer;
 use std::sync::Arc;
 
-/// Gives a line to the journal, where there is one.
+// Gives a line to the journal, where there is one.
 pub(crate) fn note<J: Diary>(journal: &mut J, line: Option<Line>) -> Result<(), Stop>
     ensures gives { IsNoted J.gives result }
     ensures cause { HasCause (Err (Stop.Diary DiaryFault.Failed)) (J.faults journal.old) (J.faults journal.new) result }
@@ -41,19 +42,7 @@ pub(crate) fn note<J: Diary>(journal: &mut J, line: Option<Line>) -> Result<(), 
     }
 }
 
-/// What happens next, and what it is answered; this alone gives events to the world.
-fn happens<C: Codec>(world: &mut World<C>, event: Event<C>) -> Result<Answer<C>, Stop>
-    requires may { (session : Session) × ((events : List EventOf) × (Stands C.coding session world.old events × May C.coding session events event)) }
-    ensures did { (session : Session) (events : List EventOf) → Stands C.coding session world.old events → May C.coding session events event → Did C.coding session world.new events (said event) result }
-    ensures memory { IfErr result (λ stop. stop ≡ Stop.Memory) }
-{
-    match world.step(event) {
-        Answer::Memory => Err(Stop::Memory),
-        answer => Ok(answer),
-    }
-}
-
-/// The picture of a number is started.
+// The picture of a number is started.
 pub(crate) fn start<C: Codec, J: Diary>(
     world: &mut World<C>,
     number: u32,
@@ -61,49 +50,40 @@ pub(crate) fn start<C: Codec, J: Diary>(
     journal: &mut J,
 ) -> Result<(), Stop>
     requires runs { (head : HeadData) × ((r : Run C.State) × ((held : Option (List ℕ)) × (IsRunning C.coding head world.old held r × HasSize (session_of head) (arc_value picture)))) }
-    ensures goes { (head : HeadData) (r : Run C.State) (held : Option (List ℕ)) → IsRunning C.coding head world.old held r → HasSize (session_of head) (arc_value picture) → Goes C.coding head J.gives world.new held (with_event C.coding (session_of head) (EventOf.Next (arc_value picture)) r) result }
+    ensures goes { (head : HeadData) (r : Run C.State) (held : Option (List ℕ)) → IsRunning C.coding head world.old held r → HasSize (session_of head) (arc_value picture) → Goes C.coding head J.gives world.new held (with_event C.coding (session_of head) (WorldEvent.Starts (arc_value picture)) r) result }
     ensures journal_cause { HasCause (Err (Stop.Diary DiaryFault.Failed)) (J.faults journal.old) (J.faults journal.new) result }
     ensures never { result ≢ Err Stop.Out }
 {
-    happens(world, Event::Next(picture))?;
-    note(journal, Some(Line::Next(number)))
-}
-
-/// The job that an answer hands out; no other answer comes where one waits.
-fn job_of<C: Codec>(answer: Answer<C>) -> Result<Job<C>, Stop>
-    ensures job { IfOk result (λ job. answer ≡ Answer.Take (Some job)) }
-    ensures memory { IfErr result (λ stop. stop ≡ Stop.Memory) }
-{
-    match answer {
-        Answer::Take(Some(job)) => Ok(job),
-        _ => Err(Stop::Memory),
+    match world.next_picture(picture) {
+        Next::Memory => Err(Stop::Memory),
+        answer => note(journal, next_line(number, answer)),
     }
 }
 
-/// The next job is handed out, where one waits.
+// The next job is handed out, which waits.
 pub(crate) fn take<C: Codec, J: Diary>(
     world: &mut World<C>,
     journal: &mut J,
 ) -> Result<Job<C>, Stop>
-    requires runs { (head : HeadData) × ((r : Run C.State) × ((held : Option (List ℕ)) × IsRunning C.coding head world.old held r)) }
-    ensures goes { (head : HeadData) (r : Run C.State) (held : Option (List ℕ)) → IsRunning C.coding head world.old held r → Goes C.coding head J.gives world.new held (with_event C.coding (session_of head) EventOf.Take r) result }
+    requires runs { (head : HeadData) × ((r : Run C.State) × ((held : Option (List ℕ)) × (IsRunning C.coding head world.old held r × IsSome (next_job C.coding r.world.sender)))) }
+    ensures goes { (head : HeadData) (r : Run C.State) (held : Option (List ℕ)) → IsRunning C.coding head world.old held r → Goes C.coding head J.gives world.new held (with_event C.coding (session_of head) WorldEvent.TakesJob r) result }
     ensures job { (head : HeadData) (r : Run C.State) (held : Option (List ℕ)) → IsRunning C.coding head world.old held r → IfOk result (λ job. next_job C.coding r.world.sender ≡ Some job) }
     ensures journal_cause { HasCause (Err (Stop.Diary DiaryFault.Failed)) (J.faults journal.old) (J.faults journal.new) result }
     ensures never { result ≢ Err Stop.Out }
 {
-    let job = job_of(happens(world, Event::Take)?)?;
+    let job = world.take_job().unwrap();
     note(journal, Some(Line::Take(job.id(), job.role())))?;
     Ok(job)
 }
 
-/// A job that was handed out is reported.
+// A job that was handed out is reported.
 pub(crate) fn report<C: Codec, J: Diary>(
     world: &mut World<C>,
     report: Report<C>,
     journal: &mut J,
 ) -> Result<(), Stop>
     requires runs { (head : HeadData) × ((r : Run C.State) × ((held : Option (List ℕ)) × (IsRunning C.coding head world.old held r × WasHandedOut C.coding (session_of head) r.events report.work))) }
-    ensures goes { (head : HeadData) (r : Run C.State) (held : Option (List ℕ)) → IsRunning C.coding head world.old held r → WasHandedOut C.coding (session_of head) r.events report.work → Goes C.coding head J.gives world.new held (with_event C.coding (session_of head) (EventOf.Reports report.work.id true) r) result }
+    ensures goes { (head : HeadData) (r : Run C.State) (held : Option (List ℕ)) → IsRunning C.coding head world.old held r → WasHandedOut C.coding (session_of head) r.events report.work → Goes C.coding head J.gives world.new held (with_event C.coding (session_of head) (WorldEvent.Reports report.work.id (given (encoded C.coding report.work))) r) result }
     ensures journal_cause { HasCause (Err (Stop.Diary DiaryFault.Failed)) (J.faults journal.old) (J.faults journal.new) result }
     ensures never { result ≢ Err Stop.Out }
 {
@@ -111,112 +91,102 @@ pub(crate) fn report<C: Codec, J: Diary>(
     let Some(size) = size_of(&report) else {
         return Err(Stop::Memory);
     };
-    let late = is_late(&happens(world, Event::Report(report))?);
-    note(journal, Some(Line::Report(id, size, late)))
+    let answer = world.report(report);
+    note(journal, Some(Line::Report(id, size, is_late(answer))))
 }
 
-/// One of the reports is chosen.
+// One of the reports is chosen.
 pub(crate) fn choose<C: Codec, J: Diary>(world: &mut World<C>, journal: &mut J) -> Result<(), Stop>
     requires runs { (head : HeadData) × ((r : Run C.State) × ((held : Option (List ℕ)) × IsRunning C.coding head world.old held r)) }
-    ensures goes { (head : HeadData) (r : Run C.State) (held : Option (List ℕ)) → IsRunning C.coding head world.old held r → Goes C.coding head J.gives world.new held (with_event C.coding (session_of head) EventOf.Chooses r) result }
+    ensures goes { (head : HeadData) (r : Run C.State) (held : Option (List ℕ)) → IsRunning C.coding head world.old held r → Goes C.coding head J.gives world.new held (with_event C.coding (session_of head) WorldEvent.Chooses r) result }
     ensures journal_cause { HasCause (Err (Stop.Diary DiaryFault.Failed)) (J.faults journal.old) (J.faults journal.new) result }
     ensures never { result ≢ Err Stop.Out }
 {
-    let line = chosen_line(happens(world, Event::Choose)?);
-    note(journal, line)
+    match world.choose() {
+        ChooseAnswer::Memory => Err(Stop::Memory),
+        answer => note(journal, chosen_line(answer)),
+    }
 }
 
-/// The datagram of a number comes to the receiver.
+// Whether there was no memory for a datagram.
+fn is_memory(answer: &Result<Delivered, Unsent>) -> bool
+    ensures { result ≡ false → answer.now ≢ Ok Delivered.Memory }
+{
+    matches!(answer, Ok(Delivered::Memory))
+}
+
+// The datagram of a number comes to the receiver.
 pub(crate) fn deliver<C: Codec, J: Diary>(
     world: &mut World<C>,
     which: u32,
     journal: &mut J,
 ) -> Result<(), Stop>
     requires runs { (head : HeadData) × ((r : Run C.State) × ((held : Option (List ℕ)) × IsRunning C.coding head world.old held r)) }
-    ensures goes { (head : HeadData) (r : Run C.State) (held : Option (List ℕ)) → IsRunning C.coding head world.old held r → Goes C.coding head J.gives world.new held (with_event C.coding (session_of head) (EventOf.Down which) r) result }
+    ensures goes { (head : HeadData) (r : Run C.State) (held : Option (List ℕ)) → IsRunning C.coding head world.old held r → Goes C.coding head J.gives world.new held (with_event C.coding (session_of head) (WorldEvent.Delivers which) r) result }
     ensures journal_cause { HasCause (Err (Stop.Diary DiaryFault.Failed)) (J.faults journal.old) (J.faults journal.new) result }
     ensures never { result ≢ Err Stop.Out }
 {
-    let line = down_line(which, &happens(world, Event::Down(which))?);
-    note(journal, line)
+    let answer = world.deliver(which);
+    if is_memory(&answer) {
+        return Err(Stop::Memory);
+    }
+    note(journal, down_line(which, &answer))
 }
 
-/// The acknowledgement of a number comes back to the sender.
+// The acknowledgement of a number comes back to the sender.
 pub(crate) fn hear<C: Codec, J: Diary>(
     world: &mut World<C>,
     which: u64,
     journal: &mut J,
 ) -> Result<(), Stop>
     requires runs { (head : HeadData) × ((r : Run C.State) × ((held : Option (List ℕ)) × IsRunning C.coding head world.old held r)) }
-    ensures goes { (head : HeadData) (r : Run C.State) (held : Option (List ℕ)) → IsRunning C.coding head world.old held r → Goes C.coding head J.gives world.new held (with_event C.coding (session_of head) (EventOf.Up which) r) result }
+    ensures goes { (head : HeadData) (r : Run C.State) (held : Option (List ℕ)) → IsRunning C.coding head world.old held r → Goes C.coding head J.gives world.new held (with_event C.coding (session_of head) (WorldEvent.Hears which) r) result }
     ensures journal_cause { HasCause (Err (Stop.Diary DiaryFault.Failed)) (J.faults journal.old) (J.faults journal.new) result }
     ensures never { result ≢ Err Stop.Out }
 {
-    let line = up_line(which, &happens(world, Event::Up(which))?);
+    let line = up_line(which, &world.hear(which));
     note(journal, line)
 }
 
-/// A moment comes.
+// A moment comes.
 pub(crate) fn pass<C: Codec, J: Diary>(
     world: &mut World<C>,
     moment: u64,
     journal: &mut J,
 ) -> Result<(), Stop>
     requires runs { (head : HeadData) × ((r : Run C.State) × ((held : Option (List ℕ)) × IsRunning C.coding head world.old held r)) }
-    ensures goes { (head : HeadData) (r : Run C.State) (held : Option (List ℕ)) → IsRunning C.coding head world.old held r → Goes C.coding head J.gives world.new held (with_event C.coding (session_of head) (EventOf.Moment moment) r) result }
+    ensures goes { (head : HeadData) (r : Run C.State) (held : Option (List ℕ)) → IsRunning C.coding head world.old held r → Goes C.coding head J.gives world.new held (with_event C.coding (session_of head) (WorldEvent.Passes moment) r) result }
     ensures journal_cause { HasCause (Err (Stop.Diary DiaryFault.Failed)) (J.faults journal.old) (J.faults journal.new) result }
     ensures never { result ≢ Err Stop.Out }
 {
-    happens(world, Event::Moment(moment))?;
-    note(journal, Some(Line::Moment(moment)))
+    let now = world.pass(moment);
+    note(journal, Some(Line::Moment(now)))
 }
 
-/// The frame that an answer hands out, or that none is ready; no other answer comes.
-fn frame_of<C: Codec>(answer: Answer<C>) -> Result<Option<Ready<C>>, Stop>
-    ensures frame { IfOk result (λ frame. answer ≡ Answer.Ready frame) }
-    ensures memory { IfErr result (λ stop. stop ≡ Stop.Memory) }
-{
-    match answer {
-        Answer::Ready(frame) => Ok(frame),
-        _ => Err(Stop::Memory),
-    }
-}
-
-/// The next ready frame is handed out, if there is one.
+// The next ready frame is handed out, if there is one.
 pub(crate) fn ready<C: Codec, J: Diary>(
     world: &mut World<C>,
     journal: &mut J,
 ) -> Result<Option<Ready<C>>, Stop>
     requires runs { (head : HeadData) × ((r : Run C.State) × ((held : Option (List ℕ)) × IsRunning C.coding head world.old held r)) }
-    ensures goes { (head : HeadData) (r : Run C.State) (held : Option (List ℕ)) → IsRunning C.coding head world.old held r → Goes C.coding head J.gives world.new held (with_event C.coding (session_of head) EventOf.Ready r) result }
+    ensures goes { (head : HeadData) (r : Run C.State) (held : Option (List ℕ)) → IsRunning C.coding head world.old held r → Goes C.coding head J.gives world.new held (with_event C.coding (session_of head) WorldEvent.TakesReady r) result }
     ensures frame { (head : HeadData) (r : Run C.State) (held : Option (List ℕ)) → IsRunning C.coding head world.old held r → IfOk result (λ frame. next_frame C.coding r.world.receiver ≡ frame) }
     ensures journal_cause { HasCause (Err (Stop.Diary DiaryFault.Failed)) (J.faults journal.old) (J.faults journal.new) result }
     ensures never { result ≢ Err Stop.Out }
 {
-    let frame = frame_of(happens(world, Event::Ready)?)?;
+    let frame = world.take_ready();
     note(journal, ready_line(&frame))?;
     Ok(frame)
 }
 
-/// What a decoding is answered; no other answer comes.
-fn done_of<C: Codec>(answer: Answer<C>) -> Result<Done, Stop>
-    ensures done { IfOk result (λ done. answer ≡ Answer.Decoded done) }
-    ensures memory { IfErr result (λ stop. stop ≡ Stop.Memory) }
-{
-    match answer {
-        Answer::Decoded(done) => Ok(done),
-        _ => Err(Stop::Memory),
-    }
-}
-
-/// Whether there was no memory for a decoding.
+// Whether there was no memory for a decoding.
 fn lacked_memory<C: Codec>(decoding: &Decoding<C>) -> bool
     ensures { did_decode decoding.now.outcome ≡ not result }
 {
-    matches!(decoding.outcome(), Outcome::NoMemory)
+    matches!(decoding.outcome(), DecodeOutcome::NoMemory)
 }
 
-/// Writes the picture that is shown, if one is, after its line.
+// Writes the picture that is shown, if one is, after its line.
 fn show<K: Sink, J: Diary>(done: &Done, out: &mut Writer<K>, journal: &mut J) -> Result<(), Stop>
     requires open { out.old.failed ≡ false }
     ensures shows { Shows J.gives (K.held out.old.sink) (K.held out.new.sink) (text_of done.now) result }
@@ -236,7 +206,7 @@ fn show<K: Sink, J: Diary>(done: &Done, out: &mut Writer<K>, journal: &mut J) ->
     }
 }
 
-/// A frame that was handed out was decoded, and is shown unless a newer one was.
+// A frame that was handed out was decoded, and is shown unless a number at least as great was.
 pub(crate) fn decoded<C: Codec, K: Sink, J: Diary>(
     world: &mut World<C>,
     decoding: Decoding<C>,
@@ -245,7 +215,7 @@ pub(crate) fn decoded<C: Codec, K: Sink, J: Diary>(
 ) -> Result<(), Stop>
     requires open { out.old.failed ≡ false }
     requires runs { (head : HeadData) × ((r : Run C.State) × (IsRunning C.coding head world.old (K.held out.old.sink) r × WasReady C.coding (session_of head) r.events decoding.handed)) }
-    ensures goes { (head : HeadData) (r : Run C.State) → IsRunning C.coding head world.old (K.held out.old.sink) r → WasReady C.coding (session_of head) r.events decoding.handed → Goes C.coding head J.gives world.new (K.held out.new.sink) (with_event C.coding (session_of head) (EventOf.Decodes decoding.handed.number true) r) result }
+    ensures goes { (head : HeadData) (r : Run C.State) → IsRunning C.coding head world.old (K.held out.old.sink) r → WasReady C.coding (session_of head) r.events decoding.handed → Goes C.coding head J.gives world.new (K.held out.new.sink) (with_event C.coding (session_of head) (WorldEvent.Decodes decoding.handed.number true) r) result }
     ensures open { OnOk result (out.new.failed ≡ false) }
     ensures out_cause { HasCause (Err Stop.Out) (K.faults out.old.sink) (K.faults out.new.sink) result }
     ensures journal_cause { HasCause (Err (Stop.Diary DiaryFault.Failed)) (J.faults journal.old) (J.faults journal.new) result }
@@ -255,6 +225,6 @@ pub(crate) fn decoded<C: Codec, K: Sink, J: Diary>(
     if lacked_memory(&decoding) {
         return Err(Stop::Memory);
     }
-    let done = done_of(happens(world, Event::Decoded(decoding))?)?;
+    let done = world.decoded(decoding);
     show(&done, out, journal)
 }

@@ -8,7 +8,7 @@ ghost use Rattle.sal_run.specs.Ends.{KeepsPromises};
 
 use sal_codec::{Codec, keeps_the_law};
 
-/// After any of the events of a run, all promises of both ends hold, where states that differ have names that differ.
+/// After any of the events of a run all promises of both ends hold.
 pub fn every_run_keeps_its_promises<C: Codec>()
     ensures { (head : Head) (lines : List Numbered) (bytes : List ℕ) → IsNarrow head → KeepsPromises C.coding head lines bytes }
 {

@@ -1,7 +1,6 @@
 //! The run of a script over a clip: both ends of a session in one world.
 #![tactic(auto)]
 
-mod diary;
 mod end;
 mod events;
 mod input;
@@ -16,7 +15,6 @@ mod stop;
 #[cfg(test)]
 mod tests;
 
-pub use diary::{CallKind, Diary, DiaryFault, Entry, Line, NoDiary, ReportSize};
 pub use end::{RunEnd, Which};
 pub use laws::every_run_keeps_its_promises;
 pub use run::run_alone;

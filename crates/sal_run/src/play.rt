@@ -3,7 +3,7 @@
 ghost use Rattle.std.specs.Prelude.{◌≡◌, ◌≢◌, [], is_some, false, ℕ, List, Option, IfOk, IfErr, OnOk, Ok, Err, if◌then◌else◌};
 ghost use Rattle.sal_io.specs.Calls.{HasCause};
 ghost use Rattle.sal_y4m.specs.declared.head.Head.{Head as HeadData};
-ghost use Rattle.sal_sender.specs.Machine.{IsHead};
+ghost use Rattle.sal_y4m.specs.Head.{IsHead};
 ghost use Rattle.sal_world.specs.Promises.{HasSize};
 ghost use Rattle.sal_world.specs.Stands.{Stands};
 ghost use Rattle.sal_world.specs.Script.{Run, next_picture, down, up, down_all, up_all, wait};
@@ -13,7 +13,6 @@ ghost use Rattle.sal_run.specs.Running.{IsAt, Comes};
 ghost use Rattle.sal_run.specs.Turns.{is_late, exchange};
 ghost use Rattle.sal_run.specs.Walk.{unless_marked};
 
-use crate::diary::{Diary, DiaryFault};
 use crate::events::{deliver, hear, pass};
 use crate::named::Named;
 use crate::stage::Stage;
@@ -21,7 +20,7 @@ use crate::stop::Stop;
 use sal_base::Picture;
 use sal_codec::Codec;
 use sal_io::Sink;
-use sal_world::World;
+use sal_world::{Diary, DiaryFault, World};
 use sal_y4m::{Head, Writer};
 use std::alloc::Global;
 

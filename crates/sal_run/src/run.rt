@@ -5,14 +5,12 @@ ghost use Rattle.sal_io.specs.Calls.{HasCause};
 ghost use Rattle.sal_y4m.specs.declared.head.Head.{Head as HeadData};
 ghost use Rattle.sal_y4m.specs.Grammar.{IsNarrow, head_text};
 ghost use Rattle.sal_script.specs.Numbered.{Numbered};
-ghost use Rattle.sal_script.specs.Script.{most_script};
-ghost use Rattle.sal_sender.specs.Machine.{IsHead};
+ghost use Rattle.sal_y4m.specs.Head.{IsHead};
 ghost use Rattle.sal_world.specs.Script.{begun};
 ghost use Rattle.sal_run.specs.Ends.{RunGives, KeepsPromises, LeavesNothing, AtEnd};
 ghost use Rattle.sal_run.specs.Stops.{end_of, run_end};
 ghost use Rattle.sal_run.specs.Running.{IsAt, Opened};
 
-use crate::diary::{Diary, DiaryFault, Line};
 use crate::end::{RunEnd, Which};
 use crate::events::note;
 use crate::input::{Feed, finish, most};
@@ -23,6 +21,7 @@ use crate::stop::{Stop, end_of};
 use sal_codec::Codec;
 use sal_io::{Sink, Source};
 use sal_script::Script;
+use sal_world::{Diary, DiaryFault, Line};
 use sal_y4m::{Head, Reader, Writer};
 use std::alloc::Global;
 
@@ -62,8 +61,8 @@ fn begin<C: Codec, K: Sink, J: Diary>(
     ensures out_tells { is_some (K.held out.new.sink) ≡ is_some (K.held out.old.sink) }
 {
     let play = Play::new(alloc, codec, head)?;
-    note(journal, Some(Line::Head(head)))?;
     open(out, head)?;
+    note(journal, Some(Line::Head(head)))?;
     Ok(play)
 }
 
@@ -145,7 +144,6 @@ pub fn run_alone<C: Codec, S: Source, K: Sink, J: Diary>(
     out: &mut Writer<K>,
     journal: &mut J,
 ) -> RunEnd
-    requires few { length script.now ≤ most_script }
     requires fresh { pictures.old.kept ≡ None }
     requires narrow { IsNarrow pictures.old.head }
     requires open { out.old.failed ≡ false }

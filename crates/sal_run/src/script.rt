@@ -9,13 +9,13 @@ ghost use Rattle.sal_world.specs.Script.{Run, is_number};
 ghost use Rattle.sal_run.specs.Running.{IsAt};
 ghost use Rattle.sal_run.specs.Input.{LineGoes, LinesGo, next_said};
 
-use crate::diary::{Diary, DiaryFault};
 use crate::input::{Feed, take};
 use crate::play::Play;
 use crate::stop::Stop;
 use sal_codec::Codec;
 use sal_io::{Sink, Source};
 use sal_script::ScriptLine;
+use sal_world::{Diary, DiaryFault};
 use sal_y4m::{Head, Reader, Writer};
 
 /// Takes the next picture, and starts, encodes and chooses it.

@@ -3,8 +3,8 @@
 ghost use Rattle.std.specs.Prelude.{◌≡◌};
 ghost use Rattle.sal_run.specs.Stops.{end_of, stop_of};
 
-use crate::diary::DiaryFault;
 use crate::end::{RunEnd, Which};
+use sal_world::DiaryFault;
 use sal_y4m::{Why, Y4mFault};
 
 /// Why a run stops before its end.

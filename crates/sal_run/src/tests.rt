@@ -6,6 +6,7 @@ use sal_codec::Plain;
 use sal_io::{MemSink, MemSource};
 use sal_script::read_script;
 use sal_sender::{JobRole, Size};
+use sal_world::{Diary, DiaryFault, Line, ReportSize};
 use sal_y4m::{Reader, Writer};
 use std::alloc::{AllocError, Global};
 use std::test::Fail;
@@ -62,7 +63,7 @@ fn note_of(line: &Line) -> Option<Note> {
         }
         Line::Nothing(budget, sizes) => Some(nothing_note(*budget, sizes.as_slice())),
         Line::Down(number) => Some(Note::Down(*number)),
-        Line::Up(number, old) => Some(Note::Up(*number, *old)),
+        Line::Up(number, heard) => Some(Note::Up(*number, *heard)),
         Line::Ready(number) => Some(Note::Ready(*number)),
         Line::Decoded(number, shown) => Some(Note::Decoded(*number, *shown)),
         Line::End => Some(Note::End),
@@ -177,7 +178,7 @@ fn every_line_of_a_run(rt: HostRuntime) -> Result<(), Fail> {
         Note::Down(1),
         Note::Ready(1),
         Note::Decoded(1, true),
-        Note::Up(1, false),
+        Note::Up(1, true),
         Note::Moment(33_340),
         Note::End,
     ];
@@ -207,7 +208,7 @@ fn every_line_of_a_rest(rt: HostRuntime) -> Result<(), Fail> {
         Note::Down(1),
         Note::Ready(1),
         Note::Decoded(1, true),
-        Note::Up(1, false),
+        Note::Up(1, true),
         Note::Moment(33_333),
         Note::Next(2),
         Note::Take(3, JobRole::Coarse),
@@ -220,7 +221,7 @@ fn every_line_of_a_rest(rt: HostRuntime) -> Result<(), Fail> {
         Note::Down(2),
         Note::Ready(2),
         Note::Decoded(2, true),
-        Note::Up(2, false),
+        Note::Up(2, true),
         Note::Moment(66_666),
         Note::End,
     ];
@@ -252,14 +253,14 @@ const WINDOW: [Note; 16] = [
 const LOSS: [Note; 12] = [
     Note::Choose(1, 2, 0, 1),
     Note::Decoded(1, true),
-    Note::Up(1, false),
+    Note::Up(1, true),
     Note::Choose(2, 5, 1, 1),
     Note::Choose(3, 8, 2, 1),
-    Note::Up(2, false),
+    Note::Up(2, true),
     Note::Choose(4, 11, 3, 1),
-    Note::Up(3, false),
+    Note::Up(3, true),
     Note::Choose(5, 14, 4, 1),
-    Note::Up(4, false),
+    Note::Up(4, true),
     Note::Choose(6, 16, 1, 1),
     Note::Decoded(6, true),
 ];
@@ -291,10 +292,10 @@ fn an_acknowledgement_that_comes_again_is_old(rt: HostRuntime) -> Result<(), Fai
         Note::Decoded(1, true),
         Note::Choose(2, 5, 1, 1),
         Note::Decoded(2, true),
-        Note::Up(2, false),
+        Note::Up(2, true),
         Note::Choose(3, 8, 2, 1),
         Note::Decoded(3, true),
-        Note::Up(3, false),
+        Note::Up(3, true),
         Note::Choose(4, 11, 3, 1),
     ];
     let script = b"next\ndown 1\nnext\ndown 2\nup 2\nnext\ndown 3\nup 3\nnext\nup 2\n";
@@ -305,7 +306,7 @@ fn an_acknowledgement_that_comes_again_is_old(rt: HostRuntime) -> Result<(), Fai
             script,
             false,
             &first,
-            &[Note::Up(2, true)]
+            &[Note::Up(2, false)]
         )?
     );
     Ok(())

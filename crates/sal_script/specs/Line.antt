@@ -2,7 +2,7 @@
 use Rattle.std.specs.Prelude.{ℕ, Bool, List, length, take, drop, Option, Some, None, ◌==◌, ◌&&◌, ◌||◌, nat_le, if◌then◌else◌, codes}
 use Rattle.std.specs.Str.{bytes_eq}
 use Rattle.std.specs.List.{before_first}
-use Rattle.sal_base.specs.Digits.{number_at}
+use Rattle.sal_base.specs.Digits.{decimal_at}
 use Rattle.sal_io.specs.Told.{◌>>=◌}
 use Rattle.sal_script.specs.declared.line.ScriptLine.{ScriptLine}
 use Rattle.sal_script.specs.declared.line.ScriptLine.TheVariants.{Next, NextLate, Down, Up, DownAll, UpAll, Wait, Rest}
@@ -22,7 +22,7 @@ after word text = if bytes_eq (take (length word) text) word then Some (drop (le
 abbrev pub number_after : List ℕ → ℕ → ℕ → List ℕ → Option ℕ
 number_after word least most text = do
   rest ← after word text
-  number ← number_at rest
+  number ← decimal_at rest
   if length number.1 == 0 && nat_le least number.0 && nat_le number.0 most then Some number.0 else None
 
 abbrev pub or_else : {A : Type 0} → Option A → Option A → Option A

@@ -5,7 +5,7 @@ ghost use Rattle.sal_script.specs.Line.{text_of, number_after, word_line, number
 ghost use Rattle.sal_script.specs.Script.{meaning};
 
 use crate::line::ScriptLine;
-use sal_base::number;
+use sal_base::leading_number;
 
 /// A line has at most so many bytes with its newline.
 const MOST_LINE: usize = 64;
@@ -32,7 +32,7 @@ fn number_behind(text: &[u8], word: &[u8], least: u32, most: u32) -> Option<u32>
     ensures { result ≡ number_after word.now least most text.now }
 {
     let rest = text.strip_prefix(word)?;
-    let (number, rest) = number(rest)?;
+    let (number, rest) = leading_number(rest)?;
     if rest.is_empty() && least <= number && number <= most {
         Some(number)
     } else {

@@ -2,7 +2,7 @@
 use Rattle.std.proofs.Common.{◌≡◌, ℕ, Bool, true, false, ◌==◌, ◌&&◌, List, length, Option, Some, None, IfSome, refl}
 use Rattle.std.specs.Prelude.{if◌then◌else◌, nat_le, codes}
 use Rattle.std.proofs.lemmas.Bool.{leb-true}
-use Rattle.sal_base.specs.Digits.{number_at}
+use Rattle.sal_base.specs.Digits.{decimal_at}
 use Rattle.sal_base.specs.Picture.{AreSides}
 use Rattle.sal_io.specs.Told.{◌>>=◌, line_within}
 use Rattle.sal_y4m.specs.declared.head.Head.{Head}
@@ -38,9 +38,9 @@ head_narrow (Some sides) is = record { sides = is; pictures = refl; seconds = re
 line_narrow : (line : List ℕ) → IfSome (header_of line) IsNarrow
 line_narrow line =
     onward (after (codes "YUV4MPEG2 W") line) _ IsNarrow (λ first.
-    onward (number_at first) _ IsNarrow (λ width.
+    onward (decimal_at first) _ IsNarrow (λ width.
     onward (after (codes " H") width.1) _ IsNarrow (λ second.
-    onward (number_at second) _ IsNarrow (λ height.
+    onward (decimal_at second) _ IsNarrow (λ height.
     head_narrow (if length height.1 == 0 then sides_of width.0 height.0 else None) (whole_sides (length height.1 == 0) width.0 height.0)))))
 
 with_rest : (o : Option Head) (rest : List ℕ) → IfSome o IsNarrow → IfSome (o >>= λ head. Some (head, rest)) (λ (found : Head × List ℕ). IsNarrow found.0)

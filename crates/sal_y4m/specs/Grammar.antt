@@ -4,7 +4,7 @@ use Rattle.std.specs.Str.{bytes_eq}
 use Rattle.sal_base.specs.declared.picture.Plane.{Plane}
 use Rattle.sal_base.specs.declared.picture.Picture.{Picture}
 use Rattle.sal_base.specs.Picture.{half, AreSides}
-use Rattle.sal_base.specs.Digits.{number_at}
+use Rattle.sal_base.specs.Digits.{decimal_at}
 use Rattle.sal_io.specs.Told.{Reading, ◌>>=◌, block_at, line_within}
 use Rattle.sal_y4m.specs.declared.head.Head.{Head}
 
@@ -31,9 +31,9 @@ sides_of width height =
 abbrev pub header_of : List ℕ → Option Head
 header_of line = do
   first ← after (codes "YUV4MPEG2 W") line
-  width ← number_at first
+  width ← decimal_at first
   second ← after (codes " H") width.1
-  height ← number_at second
+  height ← decimal_at second
   sides ← (if length height.1 == 0 then sides_of width.0 height.0 else None)
   Some (record { width = sides.0; height = sides.1; rate = (30, 1) })
 

@@ -4,7 +4,7 @@ ghost use Rattle.std.specs.Prelude.{◌≡◌, IfSome};
 ghost use Rattle.sal_base.specs.Picture.{AreSides};
 ghost use Rattle.sal_y4m.specs.Grammar.{header_of, sides_of, IsNarrow};
 
-use sal_base::{MAX_HEIGHT, MAX_WIDTH, number};
+use sal_base::{MAX_HEIGHT, MAX_WIDTH, leading_number};
 
 /// The sides of each picture, in samples of luma, and the rate: so many pictures in so many seconds.
 #[derive(Clone, Copy, Debug, PartialEq, Eq)]
@@ -31,9 +31,9 @@ pub fn header(line: &[u8]) -> Option<Head>
     ensures narrow { IfSome result IsNarrow }
 {
     let rest = line.strip_prefix(b"YUV4MPEG2 W")?;
-    let (width, rest) = number(rest)?;
+    let (width, rest) = leading_number(rest)?;
     let rest = rest.strip_prefix(b" H")?;
-    let (height, rest) = number(rest)?;
+    let (height, rest) = leading_number(rest)?;
     if !rest.is_empty() {
         return None;
     }

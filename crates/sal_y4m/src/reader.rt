@@ -12,7 +12,7 @@ use crate::fault::Y4mFault;
 use crate::head::{Head, header};
 use crate::parts::{BAD, read_picture};
 use sal_base::Picture;
-use sal_io::{Line, Source, read_line};
+use sal_io::{LineRead, Source, read_line};
 use std::alloc::Global;
 
 /// Reads the header line, and then the pictures. After Bad or ReadFault it answers that fault again, and reads no more.
@@ -37,12 +37,12 @@ fn read_head<S: Source>(source: &mut S) -> Result<Head, Y4mFault>
 {
     let mut line = [0u8; 256];
     match read_line(source, &mut line) {
-        Line::Whole(count) => match header(&line[..count]) {
+        LineRead::Whole(count) => match header(&line[..count]) {
             Some(head) => Ok(head),
             None => Err(BAD),
         },
-        Line::End | Line::Broken => Err(BAD),
-        Line::Failed => Err(Y4mFault::ReadFault),
+        LineRead::End | LineRead::Broken => Err(BAD),
+        LineRead::Failed => Err(Y4mFault::ReadFault),
     }
 }
 

@@ -1,9 +1,13 @@
+use Rattle.sal_world.specs.World.{Chooses}
 use Rattle.sal_run.specs.Loop.{session_of}
-use Rattle.sal_run.proofs.Steps.{step_exit, goes_noted, running_next}
+use Rattle.sal_run.proofs.Steps.{lacking_stops, did_stand, goes_noted, running_next}
 use Rattle.sal_run.proofs.events.choose.Goals as goal
 
-pub returns-in_err-happens-clause-goes : goal.returns-in_err-happens-clause-goes
-returns-in_err-happens-clause-goes g c head r held is = step_exit g.C.Codec.coding head g.J.Diary.gives _ _ held r _ c.from_residual.result _ c.from_residual.ensures.1 c.in_err-happens.ensures.memory is
+pub choose-requires-clause-stands : goal.choose-requires-clause-stands
+choose-requires-clause-stands g c κs within = (session_of c.requires.runs.0, (c.requires.runs.1.0.events, c.requires.runs.1.1.1.stands))
 
-pub returns-clause-goes : goal.returns-clause-goes
-returns-clause-goes g c head r held is = goes_noted g.C.Codec.coding head g.J.Diary.gives _ held _ c.note.result c.note.ensures.gives (running_next g.C.Codec.coding head _ _ held r _ tt is (c.in_ok-happens.ensures.did (session_of head) r.events is.stands tt).1)
+pub returns-in-Memory-clause-goes : goal.returns-in-Memory-clause-goes
+returns-in-Memory-clause-goes g c head r held is = lacking_stops g.C.Codec.coding head g.J.Diary.gives _ held r (Chooses) is
+
+pub returns-in_default-clause-goes : goal.returns-in_default-clause-goes
+returns-in_default-clause-goes g c head r held is = goes_noted g.C.Codec.coding head g.J.Diary.gives _ held _ c.note.result c.note.ensures.gives (running_next g.C.Codec.coding head _ _ held r _ tt is (did_stand g.C.Codec.coding head _ _ _ _ r.events (Chooses) c.in_default.not-Memory (c.choose.ensures.answered (session_of head) r.events is.stands)))

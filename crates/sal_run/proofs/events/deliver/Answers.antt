@@ -1,9 +1,10 @@
+use Rattle.sal_world.specs.World.{Delivers}
 use Rattle.sal_run.specs.Loop.{session_of}
-use Rattle.sal_run.proofs.Steps.{step_exit, goes_noted, running_next}
+use Rattle.sal_run.proofs.Steps.{lacking_stops, did_stand, goes_noted, running_next}
 use Rattle.sal_run.proofs.events.deliver.Goals as goal
 
-pub returns-in_err-happens-clause-goes : goal.returns-in_err-happens-clause-goes
-returns-in_err-happens-clause-goes g c head r held is = step_exit g.C.Codec.coding head g.J.Diary.gives _ _ held r _ c.from_residual.result _ c.from_residual.ensures.1 c.in_err-happens.ensures.memory is
+pub returns-then-is_memory-clause-goes : goal.returns-then-is_memory-clause-goes
+returns-then-is_memory-clause-goes g c head r held is = lacking_stops g.C.Codec.coding head g.J.Diary.gives _ held r (Delivers c.args.which) is
 
 pub returns-clause-goes : goal.returns-clause-goes
-returns-clause-goes g c head r held is = goes_noted g.C.Codec.coding head g.J.Diary.gives _ held _ c.note.result c.note.ensures.gives (running_next g.C.Codec.coding head _ _ held r _ tt is (c.in_ok-happens.ensures.did (session_of head) r.events is.stands tt).1)
+returns-clause-goes g c head r held is = goes_noted g.C.Codec.coding head g.J.Diary.gives _ held _ c.note.result c.note.ensures.gives (running_next g.C.Codec.coding head _ _ held r _ tt is (did_stand g.C.Codec.coding head _ _ _ _ r.events (Delivers c.args.which) (c.is_memory.ensures c.if-is_memory.false) (c.deliver-answer.ensures.answered (session_of head) r.events is.stands)))

@@ -1,9 +1,6 @@
 use Rattle.sal_run.specs.Loop.{session_of}
-use Rattle.sal_run.proofs.Steps.{step_exit, goes_noted, running_next}
+use Rattle.sal_run.proofs.Steps.{goes_noted, running_next}
 use Rattle.sal_run.proofs.events.hear.Goals as goal
 
-pub returns-in_err-happens-clause-goes : goal.returns-in_err-happens-clause-goes
-returns-in_err-happens-clause-goes g c head r held is = step_exit g.C.Codec.coding head g.J.Diary.gives _ _ held r _ c.from_residual.result _ c.from_residual.ensures.1 c.in_err-happens.ensures.memory is
-
 pub returns-clause-goes : goal.returns-clause-goes
-returns-clause-goes g c head r held is = goes_noted g.C.Codec.coding head g.J.Diary.gives _ held _ c.note.result c.note.ensures.gives (running_next g.C.Codec.coding head _ _ held r _ tt is (c.in_ok-happens.ensures.did (session_of head) r.events is.stands tt).1)
+returns-clause-goes g c head r held is = goes_noted g.C.Codec.coding head g.J.Diary.gives _ held _ c.note.result c.note.ensures.gives (running_next g.C.Codec.coding head _ _ held r _ tt is (c.hear.ensures.answered (session_of head) r.events is.stands).1)

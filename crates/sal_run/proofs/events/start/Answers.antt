@@ -1,9 +1,15 @@
+use Rattle.std.specs.Arc.{arc_value}
+use Rattle.sal_world.specs.World.{Starts}
+use Rattle.sal_world.proofs.Stepped.{session_size}
 use Rattle.sal_run.specs.Loop.{session_of}
-use Rattle.sal_run.proofs.Steps.{step_exit, goes_noted, running_next}
+use Rattle.sal_run.proofs.Steps.{lacking_stops, did_stand, goes_noted, running_next}
 use Rattle.sal_run.proofs.events.start.Goals as goal
 
-pub returns-in_err-happens-clause-goes : goal.returns-in_err-happens-clause-goes
-returns-in_err-happens-clause-goes g c head r held is size = step_exit g.C.Codec.coding head g.J.Diary.gives _ _ held r _ c.from_residual.result _ c.from_residual.ensures.1 c.in_err-happens.ensures.memory is
+pub next_picture-requires-clause-size : goal.next_picture-requires-clause-size
+next_picture-requires-clause-size g c κs within = session_size g.C.Codec.coding (session_of c.requires.runs.0) c.args.world.now c.requires.runs.1.0.events (arc_value c.args.picture) c.requires.runs.1.1.1.0.stands c.requires.runs.1.1.1.1
 
-pub returns-clause-goes : goal.returns-clause-goes
-returns-clause-goes g c head r held is size = goes_noted g.C.Codec.coding head g.J.Diary.gives _ held _ c.note.result c.note.ensures.gives (running_next g.C.Codec.coding head _ _ held r _ tt is (c.in_ok-happens.ensures.did (session_of head) r.events is.stands size).1)
+pub returns-in-Memory-clause-goes : goal.returns-in-Memory-clause-goes
+returns-in-Memory-clause-goes g c head r held is size = lacking_stops g.C.Codec.coding head g.J.Diary.gives _ held r (Starts (arc_value c.args.picture)) is
+
+pub returns-in_default-clause-goes : goal.returns-in_default-clause-goes
+returns-in_default-clause-goes g c head r held is size = goes_noted g.C.Codec.coding head g.J.Diary.gives _ held _ c.note.result c.note.ensures.gives (running_next g.C.Codec.coding head _ _ held r _ tt is (did_stand g.C.Codec.coding head _ _ _ _ r.events (Starts (arc_value c.args.picture)) c.in_default.not-Memory (c.next_picture.ensures.answered (session_of head) r.events is.stands)))

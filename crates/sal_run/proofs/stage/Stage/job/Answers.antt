@@ -1,7 +1,15 @@
 use Rattle.std.proofs.Common.{sym, ◌∙◌}
 use Rattle.sal_run.specs.Loop.{session_of}
-use Rattle.sal_run.proofs.Turns.{handed, take_exit, report_exit, job_goes}
+use Rattle.sal_run.proofs.Turns.{waits, handed, take_exit, report_exit, job_goes}
 use Rattle.sal_run.proofs.stage.Stage.job.Goals as goal
+
+pub take-requires-clause-runs : goal.take-requires-clause-runs
+take-requires-clause-runs g c κs within =
+    let head = c.requires.runs.0 in
+    let r = c.requires.runs.1.0 in
+    let held = c.requires.runs.1.1.0 in
+    let is = c.requires.runs.1.1.1 in
+    (head, (r, (held, (is, waits g.C.Codec.coding head _ held r c.in-Some.role is (c.in-Some.ensures (session_of head) r.events is.stands)))))
 
 pub returns-in_err-job-clause-goes : goal.returns-in_err-job-clause-goes
 returns-in_err-job-clause-goes g c head r held is =
