@@ -8,9 +8,11 @@ The decoder is called through the static library of crate sal_decode_ffi, by the
   rewritten for ours by the other program (`profile-ivf`), and their pictures are those of the streams before that;
 - with the other program, on such streams with flipped bits, cuts, frames of random bits, and lost or repeated frames.
 
-What is missing (the library, the other program, rustc; vpxenc, vpxdec and ffmpeg) is said in a line, and what needs it is skipped.
---measure prints milliseconds and instructions for a picture of 1280 by 720 beside ffmpeg and vpxdec, and compares nothing.
-It ends with status 1 where a picture, a state or a fault differs; a line names stream, frame, plane and macroblock."""
+What is missing (the library, the other program, rustc; vpxenc, vpxdec and ffmpeg; a folder of streams) is said by name in a line, and what
+needs it is skipped; the status is 77 where all that was asked for is. --measure prints milliseconds and instructions for a picture of 1280 by
+720 beside ffmpeg and vpxdec, and compares nothing.
+It ends with status 1 where a picture, a state or a fault differs, and where a part comes to no comparison at all; a line names stream, frame,
+plane and macroblock."""
 import argparse
 import os
 import random
@@ -170,9 +172,12 @@ def key_streams(folder, other, clips):
         yield Stream(ivf.stem, ivf, digests(other, ivf), peer=Path(f"{ivf}.recon.y4m"))
 
 
+STREAMS = peer.SOURCES / "vectors" / "streams"
+
+
 def vector_streams(folder, other):
     """Streams that lie beside the other program's sources: sign biases, copies, segments of all kinds, hidden frames."""
-    for ivf in sorted((peer.SOURCES / "vectors" / "streams").glob("*.ivf")):
+    for ivf in sorted(STREAMS.glob("*.ivf")):
         out = folder / f"{ivf.stem}.y4m"
         run([*other, "decode-ivf", ivf, out])
         yield Stream(ivf.stem, ivf, ivf.with_suffix(".digests"), peer=out)
@@ -453,62 +458,81 @@ def build(folder, library):
     return harness
 
 
+def at_least_one(word):
+    if int(word) < 1:
+        raise argparse.ArgumentTypeError("from 1 on")
+    return int(word)
+
+
 def main():
     arguments = argparse.ArgumentParser(description=__doc__, formatter_class=argparse.RawDescriptionHelpFormatter)
-    arguments.add_argument("--mutations", type=int, default=5000, help="how many mutations are tried; 100000 is the whole")
+    arguments.add_argument("--mutations", type=at_least_one, default=5000, help="how many mutations are tried; 100000 is the whole")
     arguments.add_argument("--mutation", type=int, default=0, help="the number of the first one")
     arguments.add_argument("--seed", type=int, default=1, help="of the mutations")
-    arguments.add_argument("--jobs", type=int, default=2, help="how many mutations are tried at once")
+    arguments.add_argument("--jobs", type=at_least_one, default=2, help="how many mutations are tried at once")
     arguments.add_argument("--library", type=Path, default=LIBRARY, help="another static library with the same function")
     arguments.add_argument("--measure", action="store_true", help="milliseconds and instructions, and no comparison")
     arguments.add_argument("--clip", choices=CLIPS, action="append", help="these clips alone, for --measure")
-    arguments.add_argument("--only", choices=["peer", "keys", "real", "mutations"], action="append", help="these comparisons alone")
+    arguments.add_argument("--only", choices=PARTS, action="append", help="these comparisons alone")
     arguments.add_argument("--build", action="store_true", help="prove and build the static library first")
     options = arguments.parse_args()
     other = peer.program()
     if options.build and other is not None and shutil.which("rt") is not None and not build_library():
         return 1
-    for missing, what in ((other is None, "no independent program is at hand"), (shutil.which("rustc") is None, "rustc isn't here"),
-                          (not options.library.exists(), "the static library isn't built (`rt lib` in crates/sal_decode_ffi)")):
+    if not options.library.exists() and options.library != LIBRARY:
+        say(f"{options.library} isn't there")
+        return 1
+    for missing, what in ((other is None, peer.missing()), (shutil.which("rustc") is None, "rustc isn't here"),
+                          (not options.library.exists(), f"{LIBRARY.relative_to(peer.ROOT)} isn't built (`rt lib` in its crate builds it)")):
         if missing:
             say(f"skipped, {what}")
-            return 0
-    real = all(shutil.which(tool) for tool in ("vpxenc", "vpxdec", "ffmpeg"))
+            return peer.SKIPPED
+    absent = [tool for tool in ("vpxenc", "vpxdec", "ffmpeg") if shutil.which(tool) is None]
+    if options.measure and (absent or shutil.which("valgrind") is None):
+        say(f"skipped, {', '.join(absent or ['valgrind'])} isn't here")
+        return peer.SKIPPED
     folder = Path(tempfile.mkdtemp(prefix="decoder-"))
     try:
         harness = build(folder, options.library.resolve())
         if options.measure:
-            if not real or shutil.which("valgrind") is None:
-                say("skipped, vpxenc, vpxdec, ffmpeg or valgrind isn't here")
-            else:
-                measure(harness, folder, other, options.clip or CLIPS)
+            measure(harness, folder, other, options.clip or CLIPS)
             return 0
-        return comparisons(harness, folder, other, real, options)
+        return comparisons(harness, folder, other, absent, options)
     finally:
         shutil.rmtree(folder, ignore_errors=True)
 
 
-def comparisons(harness, folder, other, real, options):
-    wanted = options.only or ["peer", "keys", "real", "mutations"]
+PARTS = ["peer", "keys", "real", "mutations"]
+
+
+def comparisons(harness, folder, other, absent, options):
+    """The parts that were asked for: 1 where one fails, the status of what is skipped where all are, and else 0."""
+    wanted = options.only or PARTS
     began = time.monotonic()
     clips = make_clips(folder, other) if "peer" in wanted or "keys" in wanted else []
-    parts = [("peer", "streams of the other program", lambda: peer_streams(folder, other, clips)),
-             ("keys", "streams of key frames", lambda: key_streams(folder, other, clips))]
-    if (peer.SOURCES / "vectors" / "streams").is_dir():
-        parts.append(("peer", "streams beside the other program", lambda: vector_streams(folder, other)))
-    if real:
-        parts.append(("real", "streams of vpxenc", lambda: real_streams(folder, other, OPTIONS)))
-    elif "real" in wanted:
-        say("streams of vpxenc: skipped, vpxenc, vpxdec or ffmpeg isn't here")
-    failed = 0
-    for word, what, streams in parts:
-        if word in wanted:
-            count, frames, differences = compare(harness, streams())
-            failed += differences
-            say(f"{what}: {count} comparisons of {frames} frames, {differences} differ ({time.monotonic() - began:.0f} s)")
+    # What each compares, and what it lacks.
+    parts = [("peer", "streams of the other program", "", lambda: peer_streams(folder, other, clips)),
+             ("peer", "streams beside the other program", "" if STREAMS.is_dir() else str(STREAMS), lambda: vector_streams(folder, other)),
+             ("keys", "streams of key frames", "", lambda: key_streams(folder, other, clips)),
+             ("real", "streams of vpxenc", ", ".join(absent), lambda: real_streams(folder, other, OPTIONS))]
+    failed = tried = 0
+    for word, what, lack, streams in parts:
+        if word not in wanted:
+            continue
+        if lack:
+            say(f"{what}: skipped, {lack} isn't here")
+            continue
+        count, frames, differences = compare(harness, streams())
+        tried += 1
+        # A part without comparisons shows nothing.
+        failed += differences or not frames
+        say(f"{what}: {count} comparisons of {frames} frames, {differences} differ ({time.monotonic() - began:.0f} s)")
     if "mutations" in wanted:
-        failed += mutate(harness, folder, other, list(mutation_streams(folder, other, real)), options)
-    return 1 if failed else 0
+        for lack in [*absent, *([] if STREAMS.is_dir() else [STREAMS])]:
+            say(f"mutations: of fewer kinds of streams, since {lack} isn't here")
+        tried += 1
+        failed += mutate(harness, folder, other, list(mutation_streams(folder, other, not absent)), options)
+    return 1 if failed else 0 if tried else peer.SKIPPED
 
 
 if __name__ == "__main__":

@@ -3,9 +3,11 @@
 
 A case is named by its seed, from which clip and script are made: sizes, losses both ways, repeats, any order, late reports, waits short and
 past half a second, windows that fill; a few clips are cut or have bad headers, and a few scripts ask for too much. `--seed N --count 1` runs
-case N alone. The other program is the one of peer.py, with the codec without compression; where there is none, one line says so and nothing
-is compared. Ours is the proved build that stands, or the words of --program before IN, SCRIPT and OUT.
-It ends with status 1 where the two differ, prints the size of the clip and the script, and keeps the files of the first difference."""
+case N alone. The other program is the one of peer.py, with the codec without compression. Ours is the proved build that stands, or the words of
+--program before IN, SCRIPT and OUT. Where one of them isn't there, one line says so, and the status is 77. A build that isn't of these sources
+is refused with status 1.
+It ends with status 1 where the two differ or one doesn't end in time, prints the size of the clip and the script, and keeps the files of the
+first difference; and also where too few of the runs end well, since runs that are refused early show little."""
 import argparse
 import random
 import re
@@ -21,6 +23,11 @@ from pathlib import Path
 import peer
 
 PROGRAM = peer.ROOT / "crates" / "salsify" / "out" / "salsify"
+LAUNCHER = peer.ROOT / "salsify"
+# What stands for a status where a program doesn't end in time.
+NO_END = "no end"
+# From how many cases on the share of runs with status 0 is tested.
+ENOUGH = 40
 # Bytes of a datagram's data, and how long a sender waits for acknowledgements until nothing counts as in flight, in microseconds.
 DATA, QUIET = 1200, 500_000
 
@@ -348,7 +355,7 @@ def outcome(words, folder, names, limit):
     try:
         status = subprocess.run([*words, *names], cwd=folder, stdin=subprocess.DEVNULL, capture_output=True, timeout=limit).returncode
     except subprocess.TimeoutExpired:
-        status = "no end"
+        status = NO_END
     out = folder / names[2]
     return status, out.read_bytes() if out.exists() else None
 
@@ -381,8 +388,8 @@ def happenings(journal):
 
 
 def difference(ours, theirs, case):
-    """Where two outcomes differ, in a line."""
-    words = [] if ours[0] == theirs[0] else [f"status {ours[0]}, and theirs {theirs[0]}"]
+    """Where two outcomes differ, in a line. Two runs that don't end are no agreement."""
+    words = [] if ours[0] == theirs[0] != NO_END else [f"status {ours[0]}, and theirs {theirs[0]}"]
     if ours[1] != theirs[1]:
         if ours[1] is None or theirs[1] is None:
             words.append("only one wrote OUT")
@@ -392,21 +399,40 @@ def difference(ours, theirs, case):
     return f"{case.name} ({case.size}): " + "; ".join(words)
 
 
+def at_least_one(word):
+    if int(word) < 1:
+        raise argparse.ArgumentTypeError("from 1 on")
+    return int(word)
+
+
+def our_words(options):
+    """The words of our program before IN, SCRIPT and OUT, or the status to end with where there is none that counts."""
+    if options.program:
+        return shlex.split(options.program), None
+    if not PROGRAM.exists():
+        print(f"compare_loop: skipped, {PROGRAM.relative_to(peer.ROOT)} isn't built (./salsify --prove builds it)")
+        return None, peer.SKIPPED
+    if subprocess.run([LAUNCHER, "--fresh"], stdin=subprocess.DEVNULL).returncode != 0:
+        print(f"compare_loop: {PROGRAM.relative_to(peer.ROOT)} isn't built from these sources (./salsify --prove builds it)")
+        return None, 1
+    return [str(PROGRAM), "loop"], None
+
+
 def main():
     arguments = argparse.ArgumentParser(description=__doc__, formatter_class=argparse.RawDescriptionHelpFormatter)
-    arguments.add_argument("--count", type=int, default=500)
+    arguments.add_argument("--count", type=at_least_one, default=500)
     arguments.add_argument("--seed", type=int, default=1)
     arguments.add_argument("--program", help="the words before IN, SCRIPT and OUT in place of the proved build's")
     arguments.add_argument("--limit", type=float, default=60, help="seconds for one run")
+    arguments.add_argument("--floor", type=float, default=0.6, help=f"the least share of our runs with status 0, of {ENOUGH} cases or more")
     options = arguments.parse_args()
     other = peer.program()
     if other is None:
-        print("compare_loop: skipped, no independent program is at hand")
-        return 0
-    ours_words = shlex.split(options.program) if options.program else [str(PROGRAM), "loop"]
-    if not options.program and not PROGRAM.exists():
-        print("compare_loop: the program isn't built; ./salsify --prove builds it")
-        return 1
+        print(f"compare_loop: skipped, {peer.missing()}")
+        return peer.SKIPPED
+    words, status = our_words(options)
+    if words is None:
+        return status
     folder = Path(tempfile.mkdtemp(prefix="compare-"))
     began = time.monotonic()
     statuses, happened, lines, differences, written, kept = Counter(), Counter(), Counter(), 0, 0, None
@@ -416,15 +442,15 @@ def main():
         (folder / "in.y4m").write_bytes(case.clip)
         (folder / "script").write_bytes(case.script)
         (folder / "journal").unlink(missing_ok=True)
-        ours = outcome(ours_words, folder, ["in.y4m", "script", "ours.y4m"], options.limit)
+        ours = outcome(words, folder, ["in.y4m", "script", "ours.y4m"], options.limit)
         theirs = outcome([*other, "loop", "--codec", "plain"], folder, ["in.y4m", "script", "theirs.y4m", "journal"], options.limit)
-        statuses[theirs[0]] += 1
+        statuses[ours[0]] += 1
         written += len(theirs[1] or b"")
         if (folder / "journal").exists():
             happened.update(happenings((folder / "journal").read_bytes()))
         if len(case.script) < 1 << 20:
             lines.update({b" ".join(line.split(b" ")[:2 if line == b"next late" else 1]) for line in case.script.split(b"\n") if not line.startswith(b"#")})
-        if ours != theirs:
+        if ours != theirs or ours[0] == NO_END:
             differences += 1
             print(f"compare_loop: {difference(ours, theirs, case)}")
             if kept is None:
@@ -440,7 +466,10 @@ def main():
     used = ", ".join(f"{lines[word]} {word.decode()}" for word in (b"next", b"next late", b"down", b"up", b"downall", b"upall", b"wait", b"rest"))
     seen = ", ".join(f"{count} {what}" for what, count in sorted(happened.items()))
     print(f"compare_loop: cases with each line: {used}; where it happened: {seen}")
-    return 1 if differences else 0
+    few = len(cases) >= ENOUGH and statuses[0] < options.floor * len(cases)
+    if few:
+        print(f"compare_loop: of {len(cases)} runs of ours {statuses[0]} ended with status 0, and not {options.floor:.0%} or more")
+    return 1 if differences or few else 0
 
 
 if __name__ == "__main__":

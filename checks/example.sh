@@ -1,11 +1,42 @@
 #!/usr/bin/env bash
-# Runs the proved program on real files: grey pictures of 16 by 16, and the example clip under two scripts.
+# Runs the built program on real files: grey pictures of 16 by 16, the example clip, and once to each status that files can bring about.
+# It ends with status 77 where the program isn't built, and with 1 where a run ends otherwise than it must.
 set -u
 root=$(cd "$(dirname "${BASH_SOURCE[0]}")/.." && pwd)
-"$root/salsify" --prove >/dev/null 2>&1 || { echo "example: the program isn't proved"; exit 1; }
+program=$root/crates/salsify/out/salsify
+[ -x "$program" ] || { echo "example: skipped, crates/salsify/out/salsify isn't built (./salsify --prove builds it)"; exit 77; }
+"$root/salsify" --fresh || { echo "example: crates/salsify/out/salsify isn't built from these sources (./salsify --prove builds it)"; exit 1; }
 folder=$(mktemp -d) || exit 1
 trap 'rm -rf "$folder"' EXIT
 cd "$folder" || exit 1
+clip=$root/examples/first.y4m
+passed=0 failed=0
+
+# Counts a case: its name and, where it failed, why.
+count() {
+    if [ -z "$2" ]; then
+        passed=$((passed + 1))
+    else
+        failed=$((failed + 1))
+        echo "example: $1: $2"
+    fi
+}
+
+# Whether the program, called by these words, ends with this status.
+ends() {
+    local name=$1 wanted=$2 status
+    shift 2
+    timeout 120 "$root/salsify" "$@" >said 2>&1 </dev/null
+    status=$?
+    count "$name" "$([ $status -eq "$wanted" ] || echo "status $status, and not $wanted")"
+}
+
+# Whether `loop` over a clip and a script ends well and OUT is wanted.y4m.
+shows() {
+    rm -f out.y4m
+    ends "$1" 0 loop "$2" "$3" out.y4m
+    count "$1" "$(cmp out.y4m wanted.y4m 2>&1)"
+}
 
 # A picture of 16 by 16 of this luma and grey chroma, after its line.
 picture() {
@@ -19,33 +50,59 @@ shown_clip() { printf 'YUV4MPEG2 W16 H16 F30:1 Ip A0:0 C420jpeg\n'; for luma in 
 read_clip 128 >in.y4m
 printf 'next\ndown 1\n' >script
 shown_clip 128 >wanted.y4m
-"$root/salsify" loop in.y4m script out.y4m || { echo "example: one picture ended with status $?"; exit 1; }
-cmp out.y4m wanted.y4m || exit 1
+shows "one picture" in.y4m script
 
 # The second picture is lost, and the sixth is made from the first, which was acknowledged.
 read_clip 128 100 72 44 90 60 >in.y4m
 shown_clip 128 60 >wanted.y4m
-"$root/salsify" loop in.y4m "$root/examples/first.script" out.y4m || { echo "example: six pictures ended with status $?"; exit 1; }
-cmp out.y4m wanted.y4m || exit 1
+shows "a loss" in.y4m "$root/examples/first.script"
+cp "$root/examples/first.shown.y4m" wanted.y4m
+shows "a loss in the example clip" "$clip" "$root/examples/first.script"
 
-# Of the clip's six pictures, each 1,158 bytes with its line after a header of 18 bytes, these.
-clip=$root/examples/first.y4m
-wanted() {
-    printf 'YUV4MPEG2 W32 H24 F30:1 Ip A0:0 C420jpeg\n'
-    for number in "$@"; do tail -c +$((19 + (number - 1) * 1158)) "$clip" | head -c 1158; done
-}
-
-# A datagram is lost, and the pictures made from it aren't shown.
-wanted 1 6 >wanted.y4m
-"$root/salsify" loop "$clip" "$root/examples/first.script" out.y4m || { echo "example: the clip ended with status $?"; exit 1; }
-cmp out.y4m wanted.y4m || exit 1
-
-# Everything is delivered.
+# Everything is delivered: the example clip's pictures after the header of 18 bytes, behind the header that is written.
 printf 'rest\n' >script
-wanted 1 2 3 4 5 6 >wanted.y4m
-"$root/salsify" loop "$clip" script out.y4m || { echo "example: the whole clip ended with status $?"; exit 1; }
-cmp out.y4m wanted.y4m || exit 1
+{ printf 'YUV4MPEG2 W32 H24 F30:1 Ip A0:0 C420jpeg\n'; tail -c +19 "$clip"; } >wanted.y4m
+shows "the whole example clip" "$clip" script
 
-"$root/salsify" loop missing "$root/examples/first.script" out.y4m
-[ $? -eq 8 ] || { echo "example: a missing file isn't answered with 8"; exit 1; }
-echo "example: 5 passed, 0 failed"
+# Each status but 0, which the runs above ended with, and 1, which is the launcher's own.
+ends "no words" 2
+ends "three words" 2 loop "$clip" script
+printf 'YUV4MPEG2 W0 H16\n' >bad.y4m
+ends "a bad header" 3 loop bad.y4m script out.y4m
+head -c 6000 "$clip" >bad.y4m
+ends "a clip that is cut" 3 loop bad.y4m script out.y4m
+printf 'nex\n' >bad.script
+ends "a bad line" 4 loop "$clip" bad.script out.y4m
+printf 'next\ndown 2\n' >bad.script
+ends "a datagram that wasn't sent" 4 loop "$clip" bad.script out.y4m
+ends "a folder as IN" 6 loop . script out.y4m
+ends "a folder as SCRIPT" 6 loop "$clip" . out.y4m
+ends "no room for OUT" 7 loop "$clip" script /dev/full
+ends "no IN" 8 loop missing script out.y4m
+ends "no SCRIPT" 8 loop "$clip" missing out.y4m
+ends "a folder as OUT" 8 loop "$clip" script .
+
+# 777 pictures of 1,382,400 bytes, the last of which passes 1,073,741,824.
+: >empty.script
+long_clip() {
+    printf 'YUV4MPEG2 W1280 H720\n'
+    # It goes on only as long as it is read.
+    for _ in {1..777}; do
+        printf 'FRAME\n' || break
+        head -c 1382400 /dev/zero || break
+    done
+}
+ends "too many bytes" 11 loop <(long_clip 2>/dev/null) empty.script out.y4m
+
+# 1,048,576 pictures of 1 by 1: two samples and, as the third, the end of the line.
+{ printf 'YUV4MPEG2 W1 H1\n'; yes $'FRAME\nyu' | head -n 2097152; } >many.y4m
+ends "too many pictures" 12 loop many.y4m empty.script out.y4m
+
+# 2,396,745 lines, which 32 MiB of memory have no room for. The program is called by itself, so that it alone has no more.
+yes 'wait 0' | head -n 2396745 >long.script
+(ulimit -v 32768 && timeout 120 "$program" loop "$clip" long.script out.y4m) >said 2>&1
+status=$?
+count "no memory" "$([ $status -eq 15 ] || echo "status $status, and not 15")"
+
+echo "example: $passed passed, $failed failed"
+[ $failed -eq 0 ]

@@ -7,17 +7,23 @@ import os
 import shlex
 import shutil
 import subprocess
+import sys
 import tempfile
 from pathlib import Path
 
 ROOT = Path(__file__).resolve().parent.parent
 SOURCES = ROOT.parent / "shared" / "oracle"
+# The status of a check that is skipped because something is missing here.
+SKIPPED = 77
 
 
 def program():
     """The other program's first words, or None where it isn't at hand."""
     if "SALSIFY_PEER" in os.environ:
-        return shlex.split(os.environ["SALSIFY_PEER"])
+        words = shlex.split(os.environ["SALSIFY_PEER"])
+        if not words or shutil.which(words[0]) is None:
+            sys.exit(f"SALSIFY_PEER names no program: {os.environ['SALSIFY_PEER']!r}")
+        return words
     if not (SOURCES / "Cargo.toml").exists() or shutil.which("cargo") is None:
         return None
     # The folder's name changes with the sources, so an old build is never taken for a new one.
@@ -29,3 +35,10 @@ def program():
     subprocess.run(build, check=True, timeout=600)
     programs = [p for p in (target / "release").iterdir() if p.is_file() and os.access(p, os.X_OK)]
     return [str(programs[0])]
+
+
+def missing():
+    """Why there is no other program, where there is none."""
+    if not (SOURCES / "Cargo.toml").exists():
+        return f"no independent program is at hand: SALSIFY_PEER isn't set, and {SOURCES} isn't there"
+    return f"cargo isn't here, which builds the independent program in {SOURCES}"

@@ -2,15 +2,19 @@
 """Compares every digit of sal_tables, in its code and in its definitions, with the profile of VP8 that fixes them.
 
 The profile is the file that SALSIFY_PROFILE names, or a vp8-*.md in a folder of ../shared beside this repository. Where there is none,
-one line says so and nothing is compared. It ends with status 1 where a digit differs, and names each such place."""
+one line says so, nothing is compared, and the status is 77. It ends with status 1 where a digit differs, and names each such place, and where
+SALSIFY_PROFILE names no file."""
 import os
 import re
 import sys
 from pathlib import Path
 
-ROOT = Path(__file__).resolve().parent.parent
-CRATE = ROOT / "crates" / "sal_tables"
-PROFILE = Path(os.environ.get("SALSIFY_PROFILE") or next(ROOT.parent.glob("shared/*/vp8-*.md"), ""))
+import peer
+
+CRATE = peer.ROOT / "crates" / "sal_tables"
+PLACE = peer.ROOT.parent / "shared"
+NAMED = os.environ.get("SALSIFY_PROFILE")
+PROFILE = Path(NAMED) if NAMED is not None else next(PLACE.glob("*/vp8-*.md"), None)
 
 # Leaves in the order of their numbers. The profile numbers the subblock modes; the other orders are ours.
 LEAVES = {
@@ -186,9 +190,12 @@ def compare(where, profile, landed, names):
 
 
 def main():
+    if PROFILE is None:
+        print(f"tables: skipped, no profile is at hand: SALSIFY_PROFILE isn't set, and there is no vp8-*.md in a folder of {PLACE}")
+        return peer.SKIPPED
     if not PROFILE.is_file():
-        print("tables: skipped, the profile is not here (SALSIFY_PROFILE names its file)")
-        return 0
+        print(f"tables: SALSIFY_PROFILE names no file: {NAMED!r}")
+        return 1
     profile = read_profile(PROFILE.read_text())
     code, code_faults = compare("code", profile, landed_code(), set(profile) - ONLY_DEFINED)
     defined, defined_faults = compare("definitions", profile, landed_definitions(), set(profile) - ONLY_ROWS)
