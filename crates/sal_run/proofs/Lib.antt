@@ -1,3 +1,4 @@
+pub mod Counting
 pub mod Steps
 pub mod Grow
 pub mod Turns

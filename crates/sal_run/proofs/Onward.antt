@@ -12,7 +12,7 @@ use Rattle.sal_script.specs.declared.line.ScriptLine.TheVariants.{Next, NextLate
 use Rattle.sal_script.specs.Numbered.{Numbered}
 use Rattle.sal_sender.specs.Jobs.{Job}
 use Rattle.sal_sender.specs.Choosing.{is_fine}
-use Rattle.sal_world.specs.WorldParts.{WorldParts}
+use Rattle.sal_run.specs.CountedParts.{CountedParts}
 use Rattle.sal_world.specs.World.{WorldEvent, sent, acks, after}
 use Rattle.sal_world.specs.World.{Starts}
 use Rattle.sal_world.specs.Script.{Run, with_event, next_picture, down, up, down_all, up_all, wait, rest, is_number, line}
@@ -164,7 +164,7 @@ module _ {S : Type 0} (codec : Coding S) (head : Head) where
   ends_here None r q t end e same shown = (ap (λ (x : Run S × End). x.1) e, tt)
   ends_here (Some o) r q t end e same shown = (ap (λ (x : Run S × End). x.1) e, shown ∙ sym (ap (λ (x : Run S × End). out_text head x.0.world) e ∙ ap (λ w. out_text head w) same))
 
-  pub part_of : (held : Option (List ℕ)) (b : WorldParts S) (r s : Run S) → IsRunning codec head b held r → Follows r s → IfSome held (PartlyOf codec head s.events)
+  pub part_of : (held : Option (List ℕ)) (b : CountedParts S) (r s : Run S) → IsRunning codec head b held r → Follows r s → IfSome held (PartlyOf codec head s.events)
   part_of None b r s is f = tt
   part_of (Some o) b r s is f = (f.later, (r.events, f.events, is.shown ∙ ap (λ w. out_text head w) is.world))
 
@@ -186,22 +186,22 @@ module _ {S : Type 0} (codec : Coding S) (head : Head) where
       let runs : run_from c ((n, next_said late) ∷ more) r ≡ end_of_lines c.fault more s = ap (λ (d : Clip). run_from d ((n, next_said late) ∷ more) r) same ∙ next_run late n more r p ps c.fault in
       ((f.later ++ g.later) ++ Starts p ∷ [], (r.events, ap (λ (t : Run S × End). t.0.events) runs ∙ events, inl (inr (p, (f.later ++ g.later, refl))), shown))
 
-  to_next_told : (late : Bool) (n : ℕ) (more : List Numbered) (b : WorldParts S) (held : Option (List ℕ)) (r : Run S) (c : Clip) → IsRunning codec head b held r → IfSome held (λ o. ToNextOf codec head (λ ls. (run_from c ls r).0.events) ((n, next_said late) ∷ more) o)
+  to_next_told : (late : Bool) (n : ℕ) (more : List Numbered) (b : CountedParts S) (held : Option (List ℕ)) (r : Run S) (c : Clip) → IsRunning codec head b held r → IfSome held (λ o. ToNextOf codec head (λ ls. (run_from c ls r).0.events) ((n, next_said late) ∷ more) o)
   to_next_told late n more b None r c is = tt
   to_next_told late n more b (Some o) r c is = to_next late n more r c c.pictures o refl (is.shown ∙ ap (λ w. out_text head w) is.world)
 
   module _ (gives : DiaryFault → Bool) where
-    pub line_exit : {X : Type 0} (numbered : Numbered) (m m' : ℕ) (left left' : Option (List ℕ)) (b : WorldParts S) (d u : Marks) (held : Option (List ℕ)) (r : Run S) (result : Result X Stop) (why : Stop) → IsErrAnd result (λ e. e ≡ why)
+    pub line_exit : {X : Type 0} (numbered : Numbered) (m m' : ℕ) (left left' : Option (List ℕ)) (b : CountedParts S) (d u : Marks) (held : Option (List ℕ)) (r : Run S) (result : Result X Stop) (why : Stop) → IsErrAnd result (λ e. e ≡ why)
         → ((more : List Numbered) → Halts codec head gives left held (λ ls l. onward codec head m l ls r) (numbered ∷ more) why) → LineGoes codec head gives numbered m m' left left' b d u held r result
     line_exit numbered m m' left left' b d u held r (Ok x) why h p = absurd h
     line_exit numbered m m' left left' b d u held r (Err e) why h p = subst (λ s. (more : List Numbered) → Halts codec head gives left held (λ ls l. onward codec head m l ls r) (numbered ∷ more) s) (sym h) p
 
-    pub said_goes : (n : ℕ) (said same : ScriptLine) (m m' : ℕ) (left left' : Option (List ℕ)) (b : WorldParts S) (d u : Marks) (held : Option (List ℕ)) (r : Run S) (result : Result (Unit {0}) Stop) → said ≡ same
+    pub said_goes : (n : ℕ) (said same : ScriptLine) (m m' : ℕ) (left left' : Option (List ℕ)) (b : CountedParts S) (d u : Marks) (held : Option (List ℕ)) (r : Run S) (result : Result (Unit {0}) Stop) → said ≡ same
         → LineGoes codec head gives (n, same) m m' left left' b d u held r result → LineGoes codec head gives (n, said) m m' left left' b d u held r result
     said_goes n said same m m' left left' b d u held r result e p = subst (λ (x : ScriptLine). LineGoes codec head gives (n, x) m m' left left' b d u held r result) (sym e) p
 
     -- no picture was taken
-    pub take_halts : (late : Bool) (n m : ℕ) (more : List Numbered) (left left' : Option (List ℕ)) (b : WorldParts S) (held : Option (List ℕ)) (r : Run S) (why : Stop) → TakeGives head m left left' (Err why) → IsRunning codec head b held r
+    pub take_halts : (late : Bool) (n m : ℕ) (more : List Numbered) (left left' : Option (List ℕ)) (b : CountedParts S) (held : Option (List ℕ)) (r : Run S) (why : Stop) → TakeGives head m left left' (Err why) → IsRunning codec head b held r
         → Halts codec head gives left held (λ ls l. onward codec head m l ls r) ((n, next_said late) ∷ more) why
     take_halts late n m more None left' b held r (stop.BadInput place why) t is = tt
     take_halts late n m more (Some l) left' b held r (stop.BadInput place why) t is =
@@ -231,7 +231,7 @@ module _ {S : Type 0} (codec : Coding S) (head : Head) where
             record { later = f.later; events = f.events }
 
     -- no picture is left
-    pub none_halts : (late : Bool) (n m : ℕ) (more : List Numbered) (left left' : Option (List ℕ)) (b : WorldParts S) (held : Option (List ℕ)) (r : Run S) (found : Option Picture) → found ≡ None → TakeGives head m left left' (Ok found) → IsRunning codec head b held r
+    pub none_halts : (late : Bool) (n m : ℕ) (more : List Numbered) (left left' : Option (List ℕ)) (b : CountedParts S) (held : Option (List ℕ)) (r : Run S) (found : Option Picture) → found ≡ None → TakeGives head m left left' (Ok found) → IsRunning codec head b held r
         → IfSome left (λ l. EndsAs codec head held (BadScript n) (onward codec head m l ((n, next_said late) ∷ more) r))
     none_halts late n m more None left' b held r found e t is = tt
     none_halts late n m more (Some l) left' b held r (Some p) e t is = absurd cc
@@ -272,11 +272,11 @@ module _ {S : Type 0} (codec : Coding S) (head : Head) where
         next_at late n m more l l' r p e
         ∙ (ap (λ (x : Run S). end_of_lines (clip_in head m l').fault more x) (sym (left_same s ps g.left)) ∙ ap (λ (k : ℕ). onward codec head k l' more s) (sym same))
 
-    pub moved : (b : WorldParts S) (d u : Marks) (held : Option (List ℕ)) (r : Run S) (ps : List Picture) → IsAt codec head b d u held r → IsAt codec head b d u held (record r { left = ps })
-    moved b d u held r ps at = record { running = record { stands = at.running.stands; world = at.running.world; shown = at.running.shown }; downs_are = at.downs_are; ups_are = at.ups_are }
+    pub moved : (b : CountedParts S) (d u : Marks) (held : Option (List ℕ)) (r : Run S) (ps : List Picture) → IsAt codec head b d u held r → IsAt codec head b d u held (record r { left = ps })
+    moved b d u held r ps at = record { running = record { stands = at.running.stands; counts = at.running.counts; world = at.running.world; shown = at.running.shown }; downs_are = at.downs_are; ups_are = at.ups_are }
 
     -- a picture was taken
-    pub next_goes : (late : Bool) (n m m' : ℕ) (left left' : Option (List ℕ)) (b0 b : WorldParts S) (d0 u0 d u : Marks) (held : Option (List ℕ)) (r : Run S) (found : Option Picture) (p : Picture) (result : Result (Unit {0}) Stop)
+    pub next_goes : (late : Bool) (n m m' : ℕ) (left left' : Option (List ℕ)) (b0 b : CountedParts S) (d0 u0 d u : Marks) (held : Option (List ℕ)) (r : Run S) (found : Option Picture) (p : Picture) (result : Result (Unit {0}) Stop)
         → found ≡ Some p → TakeGives head m left left' (Ok found) → m' + 1 ≡ m → IsAt codec head b0 d0 u0 held r
         → ((q : Run S) → IsAt codec head b0 d0 u0 held q → Comes codec head gives b d u held (next_picture codec (session_of head) (is_late late) p q) result)
         → LineGoes codec head gives (n, next_said late) m m' left left' b d u held r result
@@ -302,7 +302,7 @@ module _ {S : Type 0} (codec : Coding S) (head : Head) where
 
     -- ---- a line that reads nothing
 
-    pub plain_goes : (numbered : Numbered) (f : Run S → Run S) (m : ℕ) (left : Option (List ℕ)) (b0 b : WorldParts S) (d0 u0 d u : Marks) (held held' : Option (List ℕ)) (r : Run S) (result : Result (Unit {0}) Stop)
+    pub plain_goes : (numbered : Numbered) (f : Run S → Run S) (m : ℕ) (left : Option (List ℕ)) (b0 b : CountedParts S) (d0 u0 d u : Marks) (held held' : Option (List ℕ)) (r : Run S) (result : Result (Unit {0}) Stop)
         → ((q : Run S) → Grows q (f q)) → ((more : List Numbered) (fault : Option End) (q : Run S) → q.world ≡ r.world → end_of_lines fault (numbered ∷ more) q ≡ end_of_lines fault more (f q)) → IsAt codec head b0 d0 u0 held r
         → ((q : Run S) → IsAt codec head b0 d0 u0 held q → Comes codec head gives b d u held' (f q) result) → LineGoes codec head gives numbered m m left left b d u held' r result
     plain_goes numbered f m None b0 b d0 u0 d u held held' r (Ok x) grown unfolds at comes = (f r, (comes r at, tt))
@@ -332,17 +332,17 @@ module _ {S : Type 0} (codec : Coding S) (head : Head) where
   up_unrun n k more q fault e = rw e refl
 
   -- a number that wasn't sent
-  pub down_bad : (n k m : ℕ) (more : List Numbered) (left held : Option (List ℕ)) (b : WorldParts S) (r : Run S) → is_number k (length (sent r.world)) ≡ false → IsRunning codec head b held r → IfSome left (λ l. EndsAs codec head held (BadScript n) (onward codec head m l ((n, Down k) ∷ more) r))
+  pub down_bad : (n k m : ℕ) (more : List Numbered) (left held : Option (List ℕ)) (b : CountedParts S) (r : Run S) → is_number k (length (sent r.world)) ≡ false → IsRunning codec head b held r → IfSome left (λ l. EndsAs codec head held (BadScript n) (onward codec head m l ((n, Down k) ∷ more) r))
   down_bad n k m more None held b r e is = tt
   down_bad n k m more (Some l) held b r e is =
       let q : Run S = record r { left = (clip_in head m l).pictures } in
       ends_here held r q _ (BadScript n) (down_unrun n k more q (clip_in head m l).fault e) refl is.shown
 
-  pub up_bad : (n k m : ℕ) (more : List Numbered) (left held : Option (List ℕ)) (b : WorldParts S) (r : Run S) → is_number k (length (acks r.world)) ≡ false → IsRunning codec head b held r → IfSome left (λ l. EndsAs codec head held (BadScript n) (onward codec head m l ((n, Up k) ∷ more) r))
+  pub up_bad : (n k m : ℕ) (more : List Numbered) (left held : Option (List ℕ)) (b : CountedParts S) (r : Run S) → is_number k (length (acks r.world)) ≡ false → IsRunning codec head b held r → IfSome left (λ l. EndsAs codec head held (BadScript n) (onward codec head m l ((n, Up k) ∷ more) r))
   up_bad n k m more None held b r e is = tt
   up_bad n k m more (Some l) held b r e is =
       let q : Run S = record r { left = (clip_in head m l).pictures } in
       ends_here held r q _ (BadScript n) (up_unrun n k more q (clip_in head m l).fault e) refl is.shown
 
-  pub comes_at : (gives : DiaryFault → Bool) (b : WorldParts S) (d u : Marks) (held : Option (List ℕ)) (f : ℕ → Run S → Run S) (k' k : ℕ) (q : Run S) (result : Result (Unit {0}) Stop) → k' ≡ k → Comes codec head gives b d u held (f k' q) result → Comes codec head gives b d u held (f k q) result
+  pub comes_at : (gives : DiaryFault → Bool) (b : CountedParts S) (d u : Marks) (held : Option (List ℕ)) (f : ℕ → Run S → Run S) (k' k : ℕ) (q : Run S) (result : Result (Unit {0}) Stop) → k' ≡ k → Comes codec head gives b d u held (f k' q) result → Comes codec head gives b d u held (f k q) result
   comes_at gives b d u held f k' k q result e p = subst (λ (x : ℕ). Comes codec head gives b d u held (f x q) result) e p

@@ -10,7 +10,7 @@ use Rattle.sal_y4m.specs.declared.fault.Why.TheVariants.{Form}
 use Rattle.sal_y4m.specs.Grammar.{picture_at}
 use Rattle.sal_script.specs.declared.line.ScriptLine.TheVariants.{Rest}
 use Rattle.sal_script.specs.Numbered.{Numbered}
-use Rattle.sal_world.specs.WorldParts.{WorldParts}
+use Rattle.sal_run.specs.CountedParts.{CountedParts}
 use Rattle.sal_world.specs.World.{WorldEvent, after}
 use Rattle.sal_world.specs.World.{Starts}
 use Rattle.sal_world.specs.Script.{Run, with_event, next_picture, rest}
@@ -48,7 +48,7 @@ module _ {S : Type 0} (codec : Coding S) (head : Head) where
     pub run : rest_of (clip_in head m l).pictures now ≡ rest_of (clip_in head m0 l0).pictures (empty r)
     pub fault : (clip_in head m l).fault ≡ (clip_in head m0 l0).fault
 
-  pub record RestLeft (m0 : ℕ) (left0 : Option (List ℕ)) (r : Run S) (m : ℕ) (left : Option (List ℕ)) (b : WorldParts S) (d u : Marks) (held : Option (List ℕ)) : Type 0 where
+  pub record RestLeft (m0 : ℕ) (left0 : Option (List ℕ)) (r : Run S) (m : ℕ) (left : Option (List ℕ)) (b : CountedParts S) (d u : Marks) (held : Option (List ℕ)) : Type 0 where
     pub now : Run S
     pub here : IsAt codec head b d u held now
     pub told : Told2 left0 left (λ l0 l. IsRest m0 l0 r m l now)
@@ -57,10 +57,10 @@ module _ {S : Type 0} (codec : Coding S) (head : Head) where
   told_first m None r = tt
   told_first m (Some l) r = record { run = refl; fault = refl }
 
-  pub rest_first : (m : ℕ) (left : Option (List ℕ)) (r : Run S) (b : WorldParts S) (d u : Marks) (held : Option (List ℕ)) → IsAt codec head b d u held r → RestLeft m left r m left b d u held
+  pub rest_first : (m : ℕ) (left : Option (List ℕ)) (r : Run S) (b : CountedParts S) (d u : Marks) (held : Option (List ℕ)) → IsAt codec head b d u held r → RestLeft m left r m left b d u held
   rest_first m left r b d u held at = record {
     now = empty r;
-    here = record { running = record { stands = at.running.stands; world = at.running.world; shown = at.running.shown }; downs_are = at.downs_are; ups_are = at.ups_are };
+    here = record { running = record { stands = at.running.stands; counts = at.running.counts; world = at.running.world; shown = at.running.shown }; downs_are = at.downs_are; ups_are = at.ups_are };
     told = told_first m left r;
   }
 
@@ -81,7 +81,7 @@ module _ {S : Type 0} (codec : Coding S) (head : Head) where
         fault = sym (ap (λ (c : Clip). c.fault) clip) ∙ told.fault;
       })
 
-  pub rest_next : (m0 : ℕ) (left0 : Option (List ℕ)) (r : Run S) (m m' : ℕ) (left left' : Option (List ℕ)) (b0 b : WorldParts S) (d0 u0 d u : Marks) (held0 held : Option (List ℕ)) (found : Option Picture) (p : Picture) (time : ℕ) (now : RestLeft m0 left0 r m left b0 d0 u0 held0) → is_some left ≡ is_some left0
+  pub rest_next : (m0 : ℕ) (left0 : Option (List ℕ)) (r : Run S) (m m' : ℕ) (left left' : Option (List ℕ)) (b0 b : CountedParts S) (d0 u0 d u : Marks) (held0 held : Option (List ℕ)) (found : Option Picture) (p : Picture) (time : ℕ) (now : RestLeft m0 left0 r m left b0 d0 u0 held0) → is_some left ≡ is_some left0
       → found ≡ Some p → TakeGives head m left left' (Ok found) → m' + 1 ≡ m → time ≡ time_of → IsAt codec head b d u held (one_turn codec (session_of head) time p now.now) → RestLeft m0 left0 r m' left' b d u held
   rest_next m0 left0 r m m' left left' b0 b d0 u0 d u held0 held found p time now tells e t count same at = record {
     now = one_turn codec (session_of head) time_of p now.now;
@@ -121,7 +121,7 @@ module _ {S : Type 0} (codec : Coding S) (head : Head) where
       rest_goes_on n more (clip_in head m0 l0).pictures (clip_in head m0 l0).fault r done.1
       ∙ (ap (λ (x : Run S). end_of_lines codec head None more x) (sym (left_same now [] (now_left m0 l0 r now done.0) ∙ done.0)) ∙ sym (ap (λ (c : Clip). run_from codec head c more now) (clip_end head m' l' t.1)))
 
-  pub rest_end : (n m0 m m' : ℕ) (left0 left left' : Option (List ℕ)) (r : Run S) (b : WorldParts S) (d u : Marks) (held : Option (List ℕ)) (found : Option Picture) (now : RestLeft m0 left0 r m left b d u held) → is_some left ≡ is_some left0 → found ≡ None → TakeGives head m left left' (Ok found)
+  pub rest_end : (n m0 m m' : ℕ) (left0 left left' : Option (List ℕ)) (r : Run S) (b : CountedParts S) (d u : Marks) (held : Option (List ℕ)) (found : Option Picture) (now : RestLeft m0 left0 r m left b d u held) → is_some left ≡ is_some left0 → found ≡ None → TakeGives head m left left' (Ok found)
       → (s : Run S) × (IsAt codec head b d u held s × Told2 left0 left' (λ l0 l'. (more : List Numbered) → onward codec head m0 l0 ((n, Rest) ∷ more) r ≡ onward codec head m' l' more s))
   rest_end n m0 m m' left0 left left' r b d u held found now tells e t = (now.now, (now.here, told_end n m0 m m' left0 left left' r now.now found tells e t now.told))
 
@@ -160,7 +160,7 @@ module _ {S : Type 0} (codec : Coding S) (head : Head) where
       f.events ∙ (ap (λ es. f.later ++ es) g.events ∙ (sym (append_assoc f.later g.later (Starts p ∷ now.events)) ∙ sym (append_assoc (f.later ++ g.later) (Starts p ∷ []) now.events))) in
       ((f.later ++ g.later) ++ Starts p ∷ [], (now.events, events, inl (inr (p, (f.later ++ g.later, refl))), shown))
 
-  read_told : (n m0 m : ℕ) (more : List Numbered) (l0 l : List ℕ) (r now : Run S) (b : WorldParts S) (held : Option (List ℕ)) → IsRest m0 l0 r m l now → IsRunning codec head b held now → IfSome held (λ o. ToNextOf codec head (λ ls. (onward codec head m0 l0 ls r).0.events) ((n, Rest) ∷ more) o)
+  read_told : (n m0 m : ℕ) (more : List Numbered) (l0 l : List ℕ) (r now : Run S) (b : CountedParts S) (held : Option (List ℕ)) → IsRest m0 l0 r m l now → IsRunning codec head b held now → IfSome held (λ o. ToNextOf codec head (λ ls. (onward codec head m0 l0 ls r).0.events) ((n, Rest) ∷ more) o)
   read_told n m0 m more l0 l r now b None told is = tt
   read_told n m0 m more l0 l r now b (Some o) told is = read_case n m0 m more l0 l r now o (clip_in head m l) (clip_in head m l).pictures refl refl told (is.shown ∙ ap (λ w. out_text head w) is.world)
 
@@ -171,7 +171,7 @@ module _ {S : Type 0} (codec : Coding S) (head : Head) where
       follows_then now all _ (record { later = g.later; events = g.events }) (rest_final n more (clip_in head m0 l0).pictures (clip_in head m0 l0).fault r)
 
   module _ (gives : DiaryFault → Bool) where
-    take_stops : (n m0 m : ℕ) (more : List Numbered) (left0 left left' : Option (List ℕ)) (r now : Run S) (b : WorldParts S) (held : Option (List ℕ)) (why : Stop) → is_some left ≡ is_some left0 → TakeGives head m left left' (Err why) → IsRunning codec head b held now
+    take_stops : (n m0 m : ℕ) (more : List Numbered) (left0 left left' : Option (List ℕ)) (r now : Run S) (b : CountedParts S) (held : Option (List ℕ)) (why : Stop) → is_some left ≡ is_some left0 → TakeGives head m left left' (Err why) → IsRunning codec head b held now
         → Told2 left0 left (λ l0 l. IsRest m0 l0 r m l now) → Halts codec head gives left0 held (λ ls l. onward codec head m0 l ls r) ((n, Rest) ∷ more) why
     take_stops n m0 m more left0 left left' r now b held (stop.BadScript line) tells t is told = absurd t
     take_stops n m0 m more left0 left left' r now b held stop.Out tells t is told = absurd t
@@ -195,7 +195,7 @@ module _ {S : Type 0} (codec : Coding S) (head : Head) where
     take_stops n m0 m more (Some l0) (Some l) left' r now b held stop.ReadFault tells t is told = read_told n m0 m more l0 l r now b held told is
     take_stops n m0 m more (Some l0) (Some l) left' r now b held stop.Memory tells t is told = part_of codec head held b now _ is (now_follows n m0 m more l0 l r now told)
 
-    pub rest_take_exit : (n m0 m : ℕ) (more : List Numbered) (left0 left left' : Option (List ℕ)) (r : Run S) (b : WorldParts S) (d u : Marks) (held : Option (List ℕ)) (why : Stop) (now : RestLeft m0 left0 r m left b d u held) → is_some left ≡ is_some left0 → TakeGives head m left left' (Err why)
+    pub rest_take_exit : (n m0 m : ℕ) (more : List Numbered) (left0 left left' : Option (List ℕ)) (r : Run S) (b : CountedParts S) (d u : Marks) (held : Option (List ℕ)) (why : Stop) (now : RestLeft m0 left0 r m left b d u held) → is_some left ≡ is_some left0 → TakeGives head m left left' (Err why)
         → Halts codec head gives left0 held (λ ls l. onward codec head m0 l ls r) ((n, Rest) ∷ more) why
     rest_take_exit n m0 m more left0 left left' r b d u held why now tells t = take_stops n m0 m more left0 left left' r now.now b held why tells t now.here.running now.told
 
@@ -220,7 +220,7 @@ module _ {S : Type 0} (codec : Coding S) (head : Head) where
     unread held events (Ok x) why n m le h p = absurd h
     unread held events (Err e) why n m le h p = record { later = le; rose = λ q. let same : why ≡ stop.ReadFault = cc in absurd (subst (λ (s : Stop). Stopped codec head gives held events s) same p) }
 
-    pub rest_turn_exit : (n m0 m m' : ℕ) (more : List Numbered) (left0 left left' : Option (List ℕ)) (r : Run S) (b : WorldParts S) (d u : Marks) (held0 held : Option (List ℕ)) (found : Option Picture) (p : Picture) (time : ℕ) (why : Stop) (now : RestLeft m0 left0 r m left b d u held0)
+    pub rest_turn_exit : (n m0 m m' : ℕ) (more : List Numbered) (left0 left left' : Option (List ℕ)) (r : Run S) (b : CountedParts S) (d u : Marks) (held0 held : Option (List ℕ)) (found : Option Picture) (p : Picture) (time : ℕ) (why : Stop) (now : RestLeft m0 left0 r m left b d u held0)
         → is_some left' ≡ is_some left → is_some left ≡ is_some left0 → found ≡ Some p → TakeGives head m left left' (Ok found) → m' + 1 ≡ m → time ≡ time_of → Stopped codec head gives held (one_turn codec (session_of head) time p now.now).events why
         → Halts codec head gives left0 held (λ ls l. onward codec head m0 l ls r) ((n, Rest) ∷ more) why
     rest_turn_exit n m0 m m' more left0 left left' r b d u held0 held found p time why now tells' tells e t count same p0 =

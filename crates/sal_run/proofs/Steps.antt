@@ -17,8 +17,16 @@ use Rattle.sal_receiver.specs.Past.{DecodeResult, Decoding, shown}
 use Rattle.sal_receiver.specs.Ready.{ready_source, frame, decoding_of}
 use Rattle.sal_receiver.specs.Answers.{decoded_answer}
 use Rattle.sal_world.specs.WorldParts.{WorldParts}
+use Rattle.sal_sender.specs.declared.answers.Next.{Next}
+use Rattle.sal_sender.specs.Answers.{next_answer}
+use Rattle.sal_sender.specs.Choosing.{chosen}
+use Rattle.sal_world.specs.declared.event.ChooseAnswer.{ChooseAnswer}
+use Rattle.sal_run.specs.CountedParts.{CountedParts}
+use Rattle.sal_run.specs.declared.counted.Counts.{Counts}
+use Rattle.sal_run.specs.Counts.{with_next, with_choice, with_done, counts_of}
+use Rattle.sal_run.proofs.Counting.{IsUncounted, start_counts, choice_counts, done_counts, same_counts}
 use Rattle.sal_world.specs.World.{WorldEvent, Starts, TakesJob, Reports, Chooses, Delivers, Hears, TakesReady, Decodes, Passes, WorldPast, sent, acks, at_number, delivered_if_sent, heard_if_sent, happens, after}
-use Rattle.sal_world.specs.Answers.{done_answer}
+use Rattle.sal_world.specs.Answers.{choose_answer, done_answer}
 use Rattle.sal_world.specs.Stands.{Stands, HappenedUnless}
 use Rattle.sal_world.specs.Script.{Run, with_event}
 use Rattle.sal_world.specs.declared.diary.DiaryFault.{DiaryFault}
@@ -68,16 +76,39 @@ module _ {S : Type 0} (codec : Coding S) (head : Head) where
   did_stand lacking answer right new events e never (inl h) = absurd (never h)
   did_stand lacking answer right new events e never (inr did) = did.1
 
+  pub did_answer : {A : Type 0} (lacking answer right : A) (new : WorldParts S) (events : List WorldEvent) (e : WorldEvent) → (answer ≡ lacking → ⊥) → HappenedUnless codec (session_of head) lacking new events e answer right → answer ≡ right
+  did_answer lacking answer right new events e never (inl h) = absurd (never h)
+  did_answer lacking answer right new events e never (inr did) = did.0
+
+  -- the same of the fields of a value
+  pub opened : (b fields : CountedParts S) (held : Option (List ℕ)) (r : Run S) → fields ≡ b → IsRunning codec head b held r → IsRunning codec head fields held r
+  opened b fields held r e is = subst (λ p. IsRunning codec head p held r) (sym e) is
+
+  -- what is counted after an event: nothing, a picture that was started, or a choice
+  pub none_counted : (b : CountedParts S) (counts : Counts) (held : Option (List ℕ)) (r : Run S) (e : WorldEvent) → IsUncounted e → IsRunning codec head b held r → counts ≡ b.counts → counts ≡ counts_of (then_world r.world e)
+  none_counted b counts held r e h is same = same ∙ (is.counts ∙ sym (same_counts codec (session_of head) r.world e h))
+
+  pub start_counted : (b : CountedParts S) (counts : Counts) (held : Option (List ℕ)) (r : Run S) (picture : Picture) (answer : Next) → IsRunning codec head b held r → answer ≡ next_answer (after codec (session_of head) r.events).sender → counts ≡ with_next answer b.counts → counts ≡ counts_of (then_world r.world (Starts picture))
+  start_counted b counts held r picture answer is said counted =
+      let here : answer ≡ next_answer r.world.sender = said ∙ ap (λ (w : WorldPast S). next_answer w.sender) (sym is.world) in
+      counted ∙ (ap (with_next answer) is.counts ∙ (ap (λ (a : Next). with_next a (counts_of r.world)) here ∙ sym (start_counts r.world picture r.world.moment (next_answer r.world.sender))))
+
+  pub choice_counted : (b : CountedParts S) (counts : Counts) (held : Option (List ℕ)) (r : Run S) (answer : ChooseAnswer) → IsRunning codec head b held r → answer ≡ choose_answer codec (session_of head) (after codec (session_of head) r.events) → counts ≡ with_choice answer b.counts → counts ≡ counts_of (then_world r.world Chooses)
+  choice_counted b counts held r answer is said counted =
+      let here : answer ≡ choose_answer codec (session_of head) r.world = said ∙ ap (λ (w : WorldPast S). choose_answer codec (session_of head) w) (sym is.world) in
+      counted ∙ (ap (with_choice answer) is.counts ∙ (ap (λ (a : ChooseAnswer). with_choice a (counts_of r.world)) here ∙ sym (choice_counts r.world r.world.moment (chosen codec (session_of head) r.world.sender r.world.moment))))
+
   -- one event more that shows nothing
-  pub running_next : (b new : WorldParts S) (held : Option (List ℕ)) (r : Run S) (e : WorldEvent) → IsNoDecoding e → IsRunning codec head b held r → Stands codec (session_of head) new (e ∷ r.events) → IsRunning codec head new held (with_event codec (session_of head) e r)
+  pub running_next : (b new : CountedParts S) (held : Option (List ℕ)) (r : Run S) (e : WorldEvent) → IsNoDecoding e → IsRunning codec head b held r → Stands codec (session_of head) new.world (e ∷ r.events) → new.counts ≡ counts_of (then_world r.world e) → IsRunning codec head new held (with_event codec (session_of head) e r)
   unfolding after
-  running_next b new held r e h is stands = record {
+  running_next b new held r e h is stands counts = record {
     stands = stands;
+    counts = counts;
     world = ap (λ w. happens codec (session_of head) w e) is.world;
     shown = still held r.world e h is.shown;
   }
 
-  pub partly : (b : WorldParts S) (held : Option (List ℕ)) (r : Run S) (events later : List WorldEvent) → IsRunning codec head b held r → events ≡ later ++ r.events → IfSome held (PartlyOf codec head events)
+  pub partly : (b : CountedParts S) (held : Option (List ℕ)) (r : Run S) (events later : List WorldEvent) → IsRunning codec head b held r → events ≡ later ++ r.events → IfSome held (PartlyOf codec head events)
   partly b None r events later is e = tt
   partly b (Some o) r events later is e = (later, (r.events, e, is.shown ∙ ap (λ w. out_text head w) is.world))
 
@@ -104,10 +135,10 @@ module _ {S : Type 0} (codec : Coding S) (head : Head) where
     stopped_later held events all later (Diary fault) e p = (p.0, if_later held events all later e p.1)
     stopped_later held events all later Memory e p = if_later held events all later e p
 
-    pub memory_stops : (b : WorldParts S) (held : Option (List ℕ)) (r : Run S) (events later : List WorldEvent) (stop : Stop) → stop ≡ Memory → IsRunning codec head b held r → events ≡ later ++ r.events → Stopped codec head gives held events stop
+    pub memory_stops : (b : CountedParts S) (held : Option (List ℕ)) (r : Run S) (events later : List WorldEvent) (stop : Stop) → stop ≡ Memory → IsRunning codec head b held r → events ≡ later ++ r.events → Stopped codec head gives held events stop
     memory_stops b held r events later stop e is same = subst (λ s. Stopped codec head gives held events s) (sym e) (partly b held r events later is same)
 
-    pub noted_stops : (b : WorldParts S) (held : Option (List ℕ)) (r : Run S) (events later : List WorldEvent) (stop : Stop) → IsNoted gives (Err stop) → IsRunning codec head b held r → events ≡ later ++ r.events → Stopped codec head gives held events stop
+    pub noted_stops : (b : CountedParts S) (held : Option (List ℕ)) (r : Run S) (events later : List WorldEvent) (stop : Stop) → IsNoted gives (Err stop) → IsRunning codec head b held r → events ≡ later ++ r.events → Stopped codec head gives held events stop
     noted_stops b held r events later (BadInput place why) h is e = absurd h
     noted_stops b held r events later (BadScript line) h is e = absurd h
     noted_stops b held r events later TooMany h is e = absurd h
@@ -118,20 +149,20 @@ module _ {S : Type 0} (codec : Coding S) (head : Head) where
     noted_stops b held r events later Memory h is e = absurd h
 
     -- the line of what happened is given last
-    pub goes_noted : (b : WorldParts S) (held : Option (List ℕ)) (r : Run S) (result : Result (Unit {0}) Stop) → IsNoted gives result → IsRunning codec head b held r → Goes codec head gives b held r result
+    pub goes_noted : (b : CountedParts S) (held : Option (List ℕ)) (r : Run S) (result : Result (Unit {0}) Stop) → IsNoted gives result → IsRunning codec head b held r → Goes codec head gives b held r result
     goes_noted b held r (Ok x) h is = is
     goes_noted b held r (Err stop) h is = noted_stops b held r r.events [] stop h is refl
 
-    pub goes_exit : {X : Type 0} (b : WorldParts S) (held : Option (List ℕ)) (r : Run S) (result : Result X Stop) (stop : Stop) → IsErrAnd result (λ e. e ≡ stop) → Stopped codec head gives held r.events stop → Goes codec head gives b held r result
+    pub goes_exit : {X : Type 0} (b : CountedParts S) (held : Option (List ℕ)) (r : Run S) (result : Result X Stop) (stop : Stop) → IsErrAnd result (λ e. e ≡ stop) → Stopped codec head gives held r.events stop → Goes codec head gives b held r result
     goes_exit b held r (Ok x) stop h p = absurd h
     goes_exit b held r (Err e) stop h p = subst (λ s. Stopped codec head gives held r.events s) (sym h) p
 
     -- there was no memory for an event
-    pub lacking_stops : (b : WorldParts S) (held : Option (List ℕ)) (r : Run S) (e : WorldEvent) → IsRunning codec head b held r → Stopped codec head gives held (e ∷ r.events) Memory
+    pub lacking_stops : (b : CountedParts S) (held : Option (List ℕ)) (r : Run S) (e : WorldEvent) → IsRunning codec head b held r → Stopped codec head gives held (e ∷ r.events) Memory
     lacking_stops b held r e is = memory_stops b held r (e ∷ r.events) (e ∷ []) Memory refl is refl
 
     -- the line of an event wasn't given
-    pub note_exit : {X : Type 0} (b new : WorldParts S) (held : Option (List ℕ)) (r : Run S) (e : WorldEvent) (result : Result X Stop) (stop : Stop) → IsErrAnd result (λ s. s ≡ stop) → IsNoted gives (Err stop) → IsRunning codec head b held r → Goes codec head gives new held (with_event codec (session_of head) e r) result
+    pub note_exit : {X : Type 0} (b new : CountedParts S) (held : Option (List ℕ)) (r : Run S) (e : WorldEvent) (result : Result X Stop) (stop : Stop) → IsErrAnd result (λ s. s ≡ stop) → IsNoted gives (Err stop) → IsRunning codec head b held r → Goes codec head gives new held (with_event codec (session_of head) e r) result
     note_exit b new held r e result stop h noted is = goes_exit new held (with_event codec (session_of head) e r) result stop h (noted_stops b held r (e ∷ r.events) (e ∷ []) stop noted is refl)
 
   -- ---- a decoding
@@ -169,27 +200,30 @@ module _ {S : Type 0} (codec : Coding S) (head : Head) where
         put.2 ∙ (ap (λ (l : List ℕ). l ++ take put.0 text) p ∙ (sym (take-append-add old text put.0) ∙ ap (take (length old + put.0)) (sym e))) in
         (length old + put.0, (new, ([], (events, refl, last)), front))
 
-    did_show : (b new : WorldParts S) (held held' : Option (List ℕ)) (r s : Run S) (text : List ℕ) (later : List WorldEvent) (result : Result (Unit {0}) Stop) → is_some held' ≡ is_some held → IsRunning codec head b held r
-        → Stands codec (session_of head) new s.events → s.world ≡ after codec (session_of head) s.events → out_text head s.world ≡ out_text head r.world ++ text → s.events ≡ later ++ r.events → Shows gives held held' text result → Goes codec head gives new held' s result
-    did_show b new held held' r s text later (Ok x) tells is stands world more events p = record { stands = stands; world = world; shown = written held held' text (out_text head r.world) (out_text head s.world) tells more is.shown p }
-    did_show b new held held' r s text later (Err (BadInput place why)) tells is stands world more events p = absurd p
-    did_show b new held held' r s text later (Err (BadScript line)) tells is stands world more events p = absurd p
-    did_show b new held held' r s text later (Err TooMany) tells is stands world more events p = absurd p
-    did_show b new held held' r s text later (Err TooLong) tells is stands world more events p = absurd p
-    did_show b new held held' r s text later (Err ReadFault) tells is stands world more events p = absurd p
-    did_show b new held held' r s text later (Err Out) tells is stands world more events p = cut held held' text (out_text head r.world) (out_text head s.world) s.events tells more (ap (λ w. out_text head w) world) is.shown p
-    did_show b new held held' r s text later (Err (Diary fault)) tells is stands world more events p = (p.0, subst (λ o. IfSome o (PartlyOf codec head s.events)) (sym p.1) (partly b held r s.events later is events))
-    did_show b new held held' r s text later (Err Memory) tells is stands world more events p = absurd p
+    did_show : (b new : CountedParts S) (held held' : Option (List ℕ)) (r s : Run S) (text : List ℕ) (later : List WorldEvent) (result : Result (Unit {0}) Stop) → is_some held' ≡ is_some held → IsRunning codec head b held r
+        → Stands codec (session_of head) new.world s.events → new.counts ≡ counts_of s.world → s.world ≡ after codec (session_of head) s.events → out_text head s.world ≡ out_text head r.world ++ text → s.events ≡ later ++ r.events → Shows gives held held' text result → Goes codec head gives new held' s result
+    did_show b new held held' r s text later (Ok x) tells is stands counts world more events p = record { stands = stands; counts = counts; world = world; shown = written held held' text (out_text head r.world) (out_text head s.world) tells more is.shown p }
+    did_show b new held held' r s text later (Err (BadInput place why)) tells is stands counts world more events p = absurd p
+    did_show b new held held' r s text later (Err (BadScript line)) tells is stands counts world more events p = absurd p
+    did_show b new held held' r s text later (Err TooMany) tells is stands counts world more events p = absurd p
+    did_show b new held held' r s text later (Err TooLong) tells is stands counts world more events p = absurd p
+    did_show b new held held' r s text later (Err ReadFault) tells is stands counts world more events p = absurd p
+    did_show b new held held' r s text later (Err Out) tells is stands counts world more events p = cut held held' text (out_text head r.world) (out_text head s.world) s.events tells more (ap (λ w. out_text head w) world) is.shown p
+    did_show b new held held' r s text later (Err (Diary fault)) tells is stands counts world more events p = (p.0, subst (λ o. IfSome o (PartlyOf codec head s.events)) (sym p.1) (partly b held r s.events later is events))
+    did_show b new held held' r s text later (Err Memory) tells is stands counts world more events p = absurd p
 
     -- a decoding of a frame that was handed out, for which there was memory
-    pub decoded_goes : (b new : WorldParts S) (held held' : Option (List ℕ)) (r : Run S) (n : ℕ) (ran : Bool) (done : Done) (result : Result (Unit {0}) Stop) → is_some held' ≡ is_some held → ran ≡ true → IsRunning codec head b held r
-        → done ≡ done_answer codec (session_of head) (after codec (session_of head) r.events) n ran → Stands codec (session_of head) new (Decodes n ran ∷ r.events) → Shows gives held held' (text_of done) result
+    pub decoded_goes : (b new : CountedParts S) (held held' : Option (List ℕ)) (r : Run S) (n : ℕ) (ran : Bool) (done : Done) (result : Result (Unit {0}) Stop) → is_some held' ≡ is_some held → ran ≡ true → IsRunning codec head b held r
+        → done ≡ done_answer codec (session_of head) (after codec (session_of head) r.events) n ran → Stands codec (session_of head) new.world (Decodes n ran ∷ r.events) → new.counts ≡ with_done done b.counts → Shows gives held held' (text_of done) result
         → Goes codec head gives new held' (with_event codec (session_of head) (Decodes n true) r) result
     unfolding after
-    decoded_goes b new held held' r n false done result tells e is said stands p = absurd cc
-    decoded_goes b new held held' r n true done result tells e is said stands p =
+    decoded_goes b new held held' r n false done result tells e is said stands counted p = absurd cc
+    decoded_goes b new held held' r n true done result tells e is said stands counted p =
         let at : WorldPast S = after codec (session_of head) r.events in
         let same : done ≡ decoded_answer codec at.receiver n (decoding_of codec (ready_source codec at.receiver n) (frame at.receiver n) true) = said in
         let here : done ≡ decoded_answer codec r.world.receiver n (decoding_of codec (ready_source codec r.world.receiver n) (frame r.world.receiver n) true) =
         same ∙ ap (λ (w : WorldPast S). decoded_answer codec w.receiver n (decoding_of codec (ready_source codec w.receiver n) (frame w.receiver n) true)) (sym is.world) in
-        did_show b new held held' r (with_event codec (session_of head) (Decodes n true) r) (text_of done) (Decodes n true ∷ []) result tells is stands (ap (λ w. happens codec (session_of head) w (Decodes n true)) is.world) (decoded_text r.world n done here) refl p
+        let outcome : DecodeResult S = decoding_of codec (ready_source codec r.world.receiver n) (frame r.world.receiver n) true in
+        let counts : new.counts ≡ counts_of (then_world r.world (Decodes n true)) =
+        counted ∙ (ap (with_done done) is.counts ∙ (ap (λ (d : Done). with_done d (counts_of r.world)) here ∙ sym (done_counts r.world n outcome (decoded_answer codec r.world.receiver n outcome)))) in
+        did_show b new held held' r (with_event codec (session_of head) (Decodes n true) r) (text_of done) (Decodes n true ∷ []) result tells is stands counts (ap (λ w. happens codec (session_of head) w (Decodes n true)) is.world) (decoded_text r.world n done here) refl p

@@ -18,7 +18,7 @@ use Rattle.sal_receiver.specs.Ready.{ready_source}
 use Rattle.sal_receiver.specs.Ready.{take_answer as ready_answer}
 use Rattle.sal_receiver.specs.Handed.{HandedFrame}
 use Rattle.sal_receiver.proofs.Was.{take_waits}
-use Rattle.sal_world.specs.WorldParts.{WorldParts}
+use Rattle.sal_run.specs.CountedParts.{CountedParts}
 use Rattle.sal_world.specs.World.{WorldEvent, Starts, TakesJob, Reports, Chooses, TakesReady, Decodes, WorldPast, acks, after}
 use Rattle.sal_world.specs.HandedOut.{next_job, next_frame, frame_from, frame_at}
 use Rattle.sal_world.specs.Stands.{WasHandedOut, WasReady}
@@ -91,11 +91,11 @@ module _ {S : Type 0} (codec : Coding S) (head : Head) where
   some_mapped f h (Some x) y e = refl
 
   -- a job that has a role waits
-  pub waits : (b : WorldParts S) (held : Option (List ℕ)) (r : Run S) (role : JobRole) → IsRunning codec head b held r → Some role ≡ option_map (λ job. job.role) (first_in (waiting_jobs (after codec (session_of head) r.events).sender)) → IsSome (next_job codec r.world.sender)
+  pub waits : (b : CountedParts S) (held : Option (List ℕ)) (r : Run S) (role : JobRole) → IsRunning codec head b held r → Some role ≡ option_map (λ job. job.role) (first_in (waiting_jobs (after codec (session_of head) r.events).sender)) → IsSome (next_job codec r.world.sender)
   waits b held r role is e = some_mapped (λ (job : Job). job.role) (work_of codec r.world.sender) (first_in (waiting_jobs r.world.sender)) role (roles r role is.world e)
 
   -- a job that was handed out
-  pub handed : (b : WorldParts S) (held : Option (List ℕ)) (r : Run S) (job work : JobWork S) → IsRunning codec head b held r → next_job codec r.world.sender ≡ Some job → work ≡ job → WasHandedOut codec (session_of head) (TakesJob ∷ r.events) work
+  pub handed : (b : CountedParts S) (held : Option (List ℕ)) (r : Run S) (job work : JobWork S) → IsRunning codec head b held r → next_job codec r.world.sender ≡ Some job → work ≡ job → WasHandedOut codec (session_of head) (TakesJob ∷ r.events) work
   handed b held r job work is next same = record {
     later = [];
     before = r.events;
@@ -104,14 +104,14 @@ module _ {S : Type 0} (codec : Coding S) (head : Head) where
   }
 
   module _ (gives : DiaryFault → Bool) where
-    pub take_exit : {X : Type 0} (b new : WorldParts S) (held : Option (List ℕ)) (late : Bool) (r : Run S) (role : JobRole) (result : Result X Stop) (stop : Stop) → IsRunning codec head b held r
+    pub take_exit : {X : Type 0} (b new : CountedParts S) (held : Option (List ℕ)) (late : Bool) (r : Run S) (role : JobRole) (result : Result X Stop) (stop : Stop) → IsRunning codec head b held r
         → Some role ≡ option_map (λ job. job.role) (first_in (waiting_jobs (after codec (session_of head) r.events).sender)) → (late && is_fine_role role) ≡ false → IsErrAnd result (λ e. e ≡ stop)
         → Stopped codec head gives held (TakesJob ∷ r.events) stop → Goes codec head gives new held (one_job codec (session_of head) late r) result
     take_exit b new held late r role result stop is e quick h p =
         let more = job_later late r role (first_in (waiting_jobs r.world.sender)) (roles r role is.world e) quick in
         goes_exit codec head gives new held (one_job codec (session_of head) late r) result stop h (stopped_later codec head gives held (TakesJob ∷ r.events) (one_job codec (session_of head) late r).events more.0 stop more.1 p)
 
-    pub report_exit : {X : Type 0} (b new : WorldParts S) (held : Option (List ℕ)) (late : Bool) (r : Run S) (role : JobRole) (job work : JobWork S) (result : Result X Stop) (stop : Stop) → IsRunning codec head b held r
+    pub report_exit : {X : Type 0} (b new : CountedParts S) (held : Option (List ℕ)) (late : Bool) (r : Run S) (role : JobRole) (job work : JobWork S) (result : Result X Stop) (stop : Stop) → IsRunning codec head b held r
         → Some role ≡ option_map (λ job. job.role) (first_in (waiting_jobs (after codec (session_of head) r.events).sender)) → (late && is_fine_role role) ≡ false → next_job codec r.world.sender ≡ Some job → work ≡ job
         → IsErrAnd result (λ e. e ≡ stop) → Stopped codec head gives held (event (Reports work.id (given (encoded codec work))) (event TakesJob r)).events stop → Goes codec head gives new held (one_job codec (session_of head) late r) result
     report_exit b new held late r role job work result stop is e quick next same h p =
@@ -119,7 +119,7 @@ module _ {S : Type 0} (codec : Coding S) (head : Head) where
         goes_exit codec head gives new held (one_job codec (session_of head) late r) result stop h
         (subst (λ (s : Run S). Stopped codec head gives held s.events stop) (ap (λ (v : JobWork S). event (Reports v.id (given (encoded codec v))) (event TakesJob r)) same ∙ sym it) p)
 
-  pub job_goes : (b new : WorldParts S) (held : Option (List ℕ)) (late : Bool) (r : Run S) (role : JobRole) (job work : JobWork S) → IsRunning codec head b held r
+  pub job_goes : (b new : CountedParts S) (held : Option (List ℕ)) (late : Bool) (r : Run S) (role : JobRole) (job work : JobWork S) → IsRunning codec head b held r
       → Some role ≡ option_map (λ job. job.role) (first_in (waiting_jobs (after codec (session_of head) r.events).sender)) → (late && is_fine_role role) ≡ false → next_job codec r.world.sender ≡ Some job → work ≡ job
       → IsRunning codec head new held (event (Reports work.id (given (encoded codec work))) (event TakesJob r)) → IsRunning codec head new held (one_job codec (session_of head) late r)
   job_goes b new held late r role job work is e quick next same p =
@@ -144,15 +144,15 @@ module _ {S : Type 0} (codec : Coding S) (head : Head) where
   jobs_more late n r more e = jobs_among late n r (first_in (waiting_jobs r.world.sender)) more e
 
   -- where the loop over jobs stands after some of them
-  pub record JobsLeft (late : Bool) (i : ℕ) (b : WorldParts S) (held : Option (List ℕ)) (r : Run S) : Type 0 where
+  pub record JobsLeft (late : Bool) (i : ℕ) (b : CountedParts S) (held : Option (List ℕ)) (r : Run S) : Type 0 where
     pub now : Run S
     pub running : IsRunning codec head b held now
     pub onward : (n : ℕ) → n + i ≡ 3 → run_jobs codec (session_of head) (is_late late) n now ≡ run_jobs codec (session_of head) (is_late late) 3 r
 
-  pub jobs_first : (late : Bool) (b : WorldParts S) (held : Option (List ℕ)) (r : Run S) → IsRunning codec head b held r → JobsLeft late 0 b held r
+  pub jobs_first : (late : Bool) (b : CountedParts S) (held : Option (List ℕ)) (r : Run S) → IsRunning codec head b held r → JobsLeft late 0 b held r
   jobs_first late b held r is = record { now = r; running = is; onward = λ n e. let same : n ≡ 3 = omega (arith, e) in ap (λ (k : ℕ). run_jobs codec (session_of head) (is_late late) k r) same }
 
-  pub jobs_next : (late : Bool) (i : ℕ) (b new : WorldParts S) (held : Option (List ℕ)) (r : Run S) (more : Bool) (left : JobsLeft late i b held r) → more ≡ true → more ≡ is_job late left.now → IsRunning codec head new held (one_job codec (session_of head) late left.now) → JobsLeft late (i + 1) new held r
+  pub jobs_next : (late : Bool) (i : ℕ) (b new : CountedParts S) (held : Option (List ℕ)) (r : Run S) (more : Bool) (left : JobsLeft late i b held r) → more ≡ true → more ≡ is_job late left.now → IsRunning codec head new held (one_job codec (session_of head) late left.now) → JobsLeft late (i + 1) new held r
   jobs_next late i b new held r more left so e is = record {
     now = one_job codec (session_of head) late left.now;
     running = is;
@@ -166,13 +166,13 @@ module _ {S : Type 0} (codec : Coding S) (head : Head) where
   jobs_count (suc (suc (suc i))) h = absurd (omega (arith, h))
 
   -- no job waits any more
-  pub jobs_done : (late : Bool) (i : ℕ) (b new : WorldParts S) (held : Option (List ℕ)) (r : Run S) (more : Bool) (left : JobsLeft late i b held r) → i < 3 → more ≡ false → more ≡ is_job late left.now → IsRunning codec head new held (one_job codec (session_of head) late left.now)
+  pub jobs_done : (late : Bool) (i : ℕ) (b new : CountedParts S) (held : Option (List ℕ)) (r : Run S) (more : Bool) (left : JobsLeft late i b held r) → i < 3 → more ≡ false → more ≡ is_job late left.now → IsRunning codec head new held (one_job codec (session_of head) late left.now)
       → IsRunning codec head new held (run_jobs codec (session_of head) (is_late late) 3 r)
   jobs_done late i b new held r more left lt not_so e is =
       let n = jobs_count i lt in
       subst (λ (s : Run S). IsRunning codec head new held s) (sym (jobs_more late n.0 left.now false (sym not_so ∙ e)) ∙ left.onward (suc n.0) n.1) is
 
-  pub jobs_last : (late : Bool) (i : ℕ) (b : WorldParts S) (held : Option (List ℕ)) (r : Run S) → 3 ≤ i → i ≤ 3 → JobsLeft late i b held r → IsRunning codec head b held (run_jobs codec (session_of head) (is_late late) 3 r)
+  pub jobs_last : (late : Bool) (i : ℕ) (b : CountedParts S) (held : Option (List ℕ)) (r : Run S) → 3 ≤ i → i ≤ 3 → JobsLeft late i b held r → IsRunning codec head b held (run_jobs codec (session_of head) (is_late late) 3 r)
   unfolding run_jobs
   jobs_last late i b held r low high left = subst (λ (s : Run S). IsRunning codec head b held s) (left.onward 0 (omega (arith, low, high))) left.running
 
@@ -181,7 +181,7 @@ module _ {S : Type 0} (codec : Coding S) (head : Head) where
   grows_either false r s t p q = q
 
   module _ (gives : DiaryFault → Bool) where
-    pub jobs_exit : {X : Type 0} (late : Bool) (i : ℕ) (b new : WorldParts S) (held : Option (List ℕ)) (r : Run S) (result : Result X Stop) (stop : Stop) (left : JobsLeft late i b held r) → i < 3 → IsErrAnd result (λ e. e ≡ stop)
+    pub jobs_exit : {X : Type 0} (late : Bool) (i : ℕ) (b new : CountedParts S) (held : Option (List ℕ)) (r : Run S) (result : Result X Stop) (stop : Stop) (left : JobsLeft late i b held r) → i < 3 → IsErrAnd result (λ e. e ≡ stop)
         → Stopped codec head gives held (one_job codec (session_of head) late left.now).events stop → Goes codec head gives new held (run_jobs codec (session_of head) (is_late late) 3 r) result
     jobs_exit late i b new held r result stop left lt h p =
         let n = jobs_count i lt in
@@ -238,7 +238,7 @@ module _ {S : Type 0} (codec : Coding S) (head : Head) where
   pub no_frame : (r : Run S) → next_frame codec r.world.receiver ≡ None → one_frame codec (session_of head) r ≡ event TakesReady r
   no_frame r e = ap (λ o. with_frame codec (session_of head) r o) (no_answer r.world.receiver e)
 
-  pub was_ready : (b : WorldParts S) (held : Option (List ℕ)) (r : Run S) (frame handed_in : HandedFrame S) → IsRunning codec head b held r → next_frame codec r.world.receiver ≡ Some frame → handed_in ≡ frame → WasReady codec (session_of head) (TakesReady ∷ r.events) handed_in
+  pub was_ready : (b : CountedParts S) (held : Option (List ℕ)) (r : Run S) (frame handed_in : HandedFrame S) → IsRunning codec head b held r → next_frame codec r.world.receiver ≡ Some frame → handed_in ≡ frame → WasReady codec (session_of head) (TakesReady ∷ r.events) handed_in
   was_ready b held r frame handed_in is next same = record {
     later = [];
     before = r.events;
@@ -246,7 +246,7 @@ module _ {S : Type 0} (codec : Coding S) (head : Head) where
     next = ap (λ (w : WorldPast S). next_frame codec w.receiver) (sym is.world) ∙ (next ∙ ap (λ v. Some v) (sym same));
   }
 
-  pub decoded_runs : (new : WorldParts S) (held : Option (List ℕ)) (r : Run S) (frame handed_in : HandedFrame S) → next_frame codec r.world.receiver ≡ Some frame → handed_in ≡ frame
+  pub decoded_runs : (new : CountedParts S) (held : Option (List ℕ)) (r : Run S) (frame handed_in : HandedFrame S) → next_frame codec r.world.receiver ≡ Some frame → handed_in ≡ frame
       → IsRunning codec head new held (event (Decodes handed_in.number true) (event TakesReady r)) → IsRunning codec head new held (one_frame codec (session_of head) r)
   decoded_runs new held r frame handed_in next same p =
       subst (λ (s : Run S). IsRunning codec head new held s) (ap (λ (v : HandedFrame S). event (Decodes v.number true) (event TakesReady r)) same ∙ sym (frame_is r frame next)) p
@@ -264,22 +264,22 @@ module _ {S : Type 0} (codec : Coding S) (head : Head) where
   frames_more n r more e = frames_among n r (ready_answer codec r.world.receiver) more e
 
   -- where the loop over frames stands after some of them
-  pub record FramesLeft (count i : ℕ) (b : WorldParts S) (held : Option (List ℕ)) (r : Run S) : Type 0 where
+  pub record FramesLeft (count i : ℕ) (b : CountedParts S) (held : Option (List ℕ)) (r : Run S) : Type 0 where
     pub now : Run S
     pub running : IsRunning codec head b held now
     pub onward : (n : ℕ) → n + i ≡ count → drained codec (session_of head) n now ≡ drained codec (session_of head) (length (acks r.world)) r
 
-  pub acks_long : (b : WorldParts S) (held : Option (List ℕ)) (r : Run S) → IsRunning codec head b held r → length b.acks ≡ length (acks r.world)
+  pub acks_long : (b : CountedParts S) (held : Option (List ℕ)) (r : Run S) → IsRunning codec head b held r → length b.world.acks ≡ length (acks r.world)
   acks_long b held r is = ap length is.stands.world.acks_are ∙ (map_length _ _ ∙ ap (λ (w : WorldPast S). length (acks w)) (sym is.world))
 
-  pub frames_first : (count : ℕ) (b : WorldParts S) (held : Option (List ℕ)) (r : Run S) → count ≡ length b.acks → IsRunning codec head b held r → FramesLeft count 0 b held r
+  pub frames_first : (count : ℕ) (b : CountedParts S) (held : Option (List ℕ)) (r : Run S) → count ≡ length b.world.acks → IsRunning codec head b held r → FramesLeft count 0 b held r
   frames_first count b held r c is = record {
     now = r;
     running = is;
     onward = λ n e. let same : n ≡ count = omega (arith, e) in ap (λ (k : ℕ). drained codec (session_of head) k r) (same ∙ (c ∙ acks_long b held r is));
   }
 
-  pub frames_next : (count i : ℕ) (b new : WorldParts S) (held held' : Option (List ℕ)) (r : Run S) (more : Bool) (left : FramesLeft count i b held r) → more ≡ true → more ≡ is_frame codec left.now → IsRunning codec head new held' (one_frame codec (session_of head) left.now) → FramesLeft count (i + 1) new held' r
+  pub frames_next : (count i : ℕ) (b new : CountedParts S) (held held' : Option (List ℕ)) (r : Run S) (more : Bool) (left : FramesLeft count i b held r) → more ≡ true → more ≡ is_frame codec left.now → IsRunning codec head new held' (one_frame codec (session_of head) left.now) → FramesLeft count (i + 1) new held' r
   frames_next count i b new held held' r more left so e is = record {
     now = one_frame codec (session_of head) left.now;
     running = is;
@@ -289,30 +289,30 @@ module _ {S : Type 0} (codec : Coding S) (head : Head) where
   frames_count : (count i : ℕ) → i < count → (n : ℕ) × (suc n + i ≡ count)
   frames_count count i h = ((count - i) - 1, omega (arith, h))
 
-  pub frames_done : (count i : ℕ) (b new : WorldParts S) (held held' : Option (List ℕ)) (r : Run S) (more : Bool) (left : FramesLeft count i b held r) → i < count → more ≡ false → more ≡ is_frame codec left.now → IsRunning codec head new held' (one_frame codec (session_of head) left.now)
+  pub frames_done : (count i : ℕ) (b new : CountedParts S) (held held' : Option (List ℕ)) (r : Run S) (more : Bool) (left : FramesLeft count i b held r) → i < count → more ≡ false → more ≡ is_frame codec left.now → IsRunning codec head new held' (one_frame codec (session_of head) left.now)
       → IsRunning codec head new held' (drained codec (session_of head) (length (acks r.world)) r)
   frames_done count i b new held held' r more left lt not_so e is =
       let n = frames_count count i lt in
       subst (λ (s : Run S). IsRunning codec head new held' s) (sym (frames_more n.0 left.now false (sym not_so ∙ e)) ∙ left.onward (suc n.0) n.1) is
 
   -- one more frame is handed out, which isn't decoded
-  pub frames_last : (count i : ℕ) (b new : WorldParts S) (held : Option (List ℕ)) (r : Run S) (left : FramesLeft count i b held r) → count ≤ i → i ≤ count → IsRunning codec head new held (event TakesReady left.now) → IsRunning codec head new held (drained codec (session_of head) (length (acks r.world)) r)
+  pub frames_last : (count i : ℕ) (b new : CountedParts S) (held : Option (List ℕ)) (r : Run S) (left : FramesLeft count i b held r) → count ≤ i → i ≤ count → IsRunning codec head new held (event TakesReady left.now) → IsRunning codec head new held (drained codec (session_of head) (length (acks r.world)) r)
   unfolding drained
   frames_last count i b new held r left low high is = subst (λ (s : Run S). IsRunning codec head new held s) (left.onward 0 (omega (arith, low, high))) is
 
   module _ (gives : DiaryFault → Bool) where
-    pub ready_exit : {X : Type 0} (new : WorldParts S) (held : Option (List ℕ)) (r : Run S) (result : Result X Stop) (stop : Stop) → IsErrAnd result (λ e. e ≡ stop) → Stopped codec head gives held (TakesReady ∷ r.events) stop → Goes codec head gives new held (one_frame codec (session_of head) r) result
+    pub ready_exit : {X : Type 0} (new : CountedParts S) (held : Option (List ℕ)) (r : Run S) (result : Result X Stop) (stop : Stop) → IsErrAnd result (λ e. e ≡ stop) → Stopped codec head gives held (TakesReady ∷ r.events) stop → Goes codec head gives new held (one_frame codec (session_of head) r) result
     ready_exit new held r result stop h p =
         let more = frame_later r (ready_answer codec r.world.receiver) in
         goes_exit codec head gives new held (one_frame codec (session_of head) r) result stop h (stopped_later codec head gives held (TakesReady ∷ r.events) (one_frame codec (session_of head) r).events more.0 stop more.1 p)
 
-    pub decoded_exit : {X : Type 0} (new : WorldParts S) (held : Option (List ℕ)) (r : Run S) (frame handed_in : HandedFrame S) (result : Result X Stop) (stop : Stop) → next_frame codec r.world.receiver ≡ Some frame → handed_in ≡ frame → IsErrAnd result (λ e. e ≡ stop)
+    pub decoded_exit : {X : Type 0} (new : CountedParts S) (held : Option (List ℕ)) (r : Run S) (frame handed_in : HandedFrame S) (result : Result X Stop) (stop : Stop) → next_frame codec r.world.receiver ≡ Some frame → handed_in ≡ frame → IsErrAnd result (λ e. e ≡ stop)
         → Stopped codec head gives held (event (Decodes handed_in.number true) (event TakesReady r)).events stop → Goes codec head gives new held (one_frame codec (session_of head) r) result
     decoded_exit new held r frame handed_in result stop next same h p =
         goes_exit codec head gives new held (one_frame codec (session_of head) r) result stop h
         (subst (λ (s : Run S). Stopped codec head gives held s.events stop) (ap (λ (v : HandedFrame S). event (Decodes v.number true) (event TakesReady r)) same ∙ sym (frame_is r frame next)) p)
 
-    pub frames_exit : {X : Type 0} (count i : ℕ) (b new : WorldParts S) (held held' : Option (List ℕ)) (r : Run S) (result : Result X Stop) (stop : Stop) (left : FramesLeft count i b held r) → i < count → IsErrAnd result (λ e. e ≡ stop)
+    pub frames_exit : {X : Type 0} (count i : ℕ) (b new : CountedParts S) (held held' : Option (List ℕ)) (r : Run S) (result : Result X Stop) (stop : Stop) (left : FramesLeft count i b held r) → i < count → IsErrAnd result (λ e. e ≡ stop)
         → Stopped codec head gives held' (one_frame codec (session_of head) left.now).events stop → Goes codec head gives new held' (drained codec (session_of head) (length (acks r.world)) r) result
     frames_exit count i b new held held' r result stop left lt h p =
         let n = frames_count count i lt in
@@ -324,7 +324,7 @@ module _ {S : Type 0} (codec : Coding S) (head : Head) where
         (drained_kept codec (session_of head) (λ s. Grows one s) (λ e u s g. grows_event codec (session_of head) one e s g) n.0 one (grows_none one)) (grows_none one)) in
         goes_exit codec head gives new held' all result stop h (stopped_later codec head gives held' one.events all.events grown.later stop grown.events p)
 
-    pub last_exit : {X : Type 0} (count i : ℕ) (b new : WorldParts S) (held : Option (List ℕ)) (r : Run S) (result : Result X Stop) (stop : Stop) (left : FramesLeft count i b held r) → count ≤ i → i ≤ count → IsErrAnd result (λ e. e ≡ stop)
+    pub last_exit : {X : Type 0} (count i : ℕ) (b new : CountedParts S) (held : Option (List ℕ)) (r : Run S) (result : Result X Stop) (stop : Stop) (left : FramesLeft count i b held r) → count ≤ i → i ≤ count → IsErrAnd result (λ e. e ≡ stop)
         → Stopped codec head gives held (TakesReady ∷ left.now.events) stop → Goes codec head gives new held (drained codec (session_of head) (length (acks r.world)) r) result
     unfolding drained
     last_exit count i b new held r result stop left low high h p =
@@ -335,26 +335,26 @@ module _ {S : Type 0} (codec : Coding S) (head : Head) where
     abbrev shot_after : Bool → Run S → Run S
     shot_after late s = run_jobs codec (session_of head) (is_late false) 3 (event Chooses (run_jobs codec (session_of head) (is_late late) 3 s))
 
-    pub start_exit : {X : Type 0} (new : WorldParts S) (held : Option (List ℕ)) (late : Bool) (picture : Picture) (r : Run S) (result : Result X Stop) (stop : Stop) → IsErrAnd result (λ e. e ≡ stop) → Stopped codec head gives held (Starts picture ∷ r.events) stop → Goes codec head gives new held (shot_after late (event (Starts picture) r)) result
+    pub start_exit : {X : Type 0} (new : CountedParts S) (held : Option (List ℕ)) (late : Bool) (picture : Picture) (r : Run S) (result : Result X Stop) (stop : Stop) → IsErrAnd result (λ e. e ≡ stop) → Stopped codec head gives held (Starts picture ∷ r.events) stop → Goes codec head gives new held (shot_after late (event (Starts picture) r)) result
     start_exit new held late picture r result stop h p =
         let s : Run S = event (Starts picture) r in
         let grown : Grows s (shot_after late s) = chosen_kept codec (session_of head) (λ t. Grows s t) (λ e u t g. grows_event codec (session_of head) s e t g) (is_late late) s (grows_none s) in
         goes_exit codec head gives new held (shot_after late s) result stop h (stopped_later codec head gives held s.events (shot_after late s).events grown.later stop grown.events p)
 
-    pub early_exit : {X : Type 0} (new : WorldParts S) (held : Option (List ℕ)) (late : Bool) (s : Run S) (result : Result X Stop) (stop : Stop) → IsErrAnd result (λ e. e ≡ stop) → Stopped codec head gives held (run_jobs codec (session_of head) (is_late late) 3 s).events stop → Goes codec head gives new held (shot_after late s) result
+    pub early_exit : {X : Type 0} (new : CountedParts S) (held : Option (List ℕ)) (late : Bool) (s : Run S) (result : Result X Stop) (stop : Stop) → IsErrAnd result (λ e. e ≡ stop) → Stopped codec head gives held (run_jobs codec (session_of head) (is_late late) 3 s).events stop → Goes codec head gives new held (shot_after late s) result
     early_exit new held late s result stop h p =
         let early : Run S = run_jobs codec (session_of head) (is_late late) 3 s in
         let grown : Grows early (shot_after late s) =
         jobs_kept codec (session_of head) (λ t. Grows early t) (λ e u t g. grows_event codec (session_of head) early e t g) (is_late false) 3 (event Chooses early) (grows_event codec (session_of head) early Chooses early (grows_none early)) in
         goes_exit codec head gives new held (shot_after late s) result stop h (stopped_later codec head gives held early.events (shot_after late s).events grown.later stop grown.events p)
 
-    pub choose_exit : {X : Type 0} (new : WorldParts S) (held : Option (List ℕ)) (late : Bool) (s : Run S) (result : Result X Stop) (stop : Stop) → IsErrAnd result (λ e. e ≡ stop) → Stopped codec head gives held (event Chooses (run_jobs codec (session_of head) (is_late late) 3 s)).events stop → Goes codec head gives new held (shot_after late s) result
+    pub choose_exit : {X : Type 0} (new : CountedParts S) (held : Option (List ℕ)) (late : Bool) (s : Run S) (result : Result X Stop) (stop : Stop) → IsErrAnd result (λ e. e ≡ stop) → Stopped codec head gives held (event Chooses (run_jobs codec (session_of head) (is_late late) 3 s)).events stop → Goes codec head gives new held (shot_after late s) result
     choose_exit new held late s result stop h p =
         let chosen : Run S = event Chooses (run_jobs codec (session_of head) (is_late late) 3 s) in
         let grown : Grows chosen (shot_after late s) = jobs_kept codec (session_of head) (λ t. Grows chosen t) (λ e u t g. grows_event codec (session_of head) chosen e t g) (is_late false) 3 chosen (grows_none chosen) in
         goes_exit codec head gives new held (shot_after late s) result stop h (stopped_later codec head gives held chosen.events (shot_after late s).events grown.later stop grown.events p)
 
-    pub samples_stop : (new b : WorldParts S) (held : Option (List ℕ)) (late : Bool) (picture : Picture) (r : Run S) → IsRunning codec head b held r → IfSome held (PartlyOf codec head (shot_after late (event (Starts picture) r)).events)
+    pub samples_stop : (new b : CountedParts S) (held : Option (List ℕ)) (late : Bool) (picture : Picture) (r : Run S) → IsRunning codec head b held r → IfSome held (PartlyOf codec head (shot_after late (event (Starts picture) r)).events)
     samples_stop new b held late picture r is =
         let grown : Grows r (shot_after late (event (Starts picture) r)) =
         chosen_kept codec (session_of head) (λ t. Grows r t) (λ e u t g. grows_event codec (session_of head) r e t g) (is_late late) (event (Starts picture) r) (grows_event codec (session_of head) r (Starts picture) r (grows_none r)) in

@@ -12,8 +12,12 @@ use Rattle.sal_y4m.specs.declared.fault.Why.TheVariants.{Form}
 use Rattle.sal_y4m.specs.Grammar.{picture_at, head_text}
 use Rattle.sal_script.specs.declared.line.ScriptLine.TheVariants.{Rest}
 use Rattle.sal_script.specs.Numbered.{Numbered}
-use Rattle.sal_world.specs.WorldParts.{WorldParts}
-use Rattle.sal_world.specs.World.{start, after}
+use Rattle.sal_run.specs.CountedParts.{CountedParts}
+use Rattle.sal_run.specs.declared.counted.Counts.{Counts}
+use Rattle.sal_run.specs.declared.end.Summary.{Summary}
+use Rattle.sal_run.specs.Summary.{summary_of}
+use Rattle.sal_run.specs.Counts.{no_counts, summary_with}
+use Rattle.sal_world.specs.World.{WorldEvent, WorldPast, start, sent, after}
 use Rattle.sal_world.specs.Stands.{Stands}
 use Rattle.sal_world.specs.Script.{Run, begun, downs_in, ups_in}
 use Rattle.sal_world.specs.declared.diary.DiaryFault.{DiaryFault}
@@ -56,7 +60,7 @@ take_more all numbered i e = take-add i 1 all ∙ ap (λ (xs : List Numbered). t
 module _ {S : Type 0} (codec : Coding S) (head : Head) where
   -- ---- the lines, one after the other
 
-  pub record LinesLeft (m0 : ℕ) (left0 : Option (List ℕ)) (all : List Numbered) (r : Run S) (at m : ℕ) (left : Option (List ℕ)) (b : WorldParts S) (d u : Marks) (held : Option (List ℕ)) : Type 0 where
+  pub record LinesLeft (m0 : ℕ) (left0 : Option (List ℕ)) (all : List Numbered) (r : Run S) (at m : ℕ) (left : Option (List ℕ)) (b : CountedParts S) (d u : Marks) (held : Option (List ℕ)) : Type 0 where
     pub now : Run S
     pub here : IsAt codec head b d u held now
     pub told : Told2 left0 left (λ l0 l. (more : List Numbered) → onward codec head m0 l0 (take at all ++ more) r ≡ onward codec head m l more now)
@@ -65,7 +69,7 @@ module _ {S : Type 0} (codec : Coding S) (head : Head) where
   same_told m None r = tt
   same_told m (Some l) r = λ more. refl
 
-  pub lines_first : (m : ℕ) (left : Option (List ℕ)) (all : List Numbered) (r : Run S) (b : WorldParts S) (d u : Marks) (held : Option (List ℕ)) → IsAt codec head b d u held r → LinesLeft m left all r 0 m left b d u held
+  pub lines_first : (m : ℕ) (left : Option (List ℕ)) (all : List Numbered) (r : Run S) (b : CountedParts S) (d u : Marks) (held : Option (List ℕ)) → IsAt codec head b d u held r → LinesLeft m left all r 0 m left b d u held
   lines_first m left all r b d u held at = record { now = r; here = at; told = same_told m left r }
 
   -- the lines so far, with one more
@@ -133,20 +137,20 @@ module _ {S : Type 0} (codec : Coding S) (head : Head) where
     halts_from (Some l0) (Some l) held final0 final first lines all (stop.Diary fault) e tells same p = (p.0, subst (λ (t : Run S × End). IfSome held (λ o. PartlyOf codec head t.0.events o)) (sym (ap (λ ls. final0 ls l0) e ∙ same lines)) p.1)
     halts_from (Some l0) (Some l) held final0 final first lines all stop.Memory e tells same p = subst (λ (t : Run S × End). IfSome held (λ o. PartlyOf codec head t.0.events o)) (sym (ap (λ ls. final0 ls l0) e ∙ same lines)) p
 
-    pub lines_exit : (all : List Numbered) (m m' : ℕ) (left left' : Option (List ℕ)) (b : WorldParts S) (d u : Marks) (held : Option (List ℕ)) (r : Run S) (result : Result (Unit {0}) Stop) (why : Stop) → IsErrAnd result (λ e. e ≡ why)
+    pub lines_exit : (all : List Numbered) (m m' : ℕ) (left left' : Option (List ℕ)) (b : CountedParts S) (d u : Marks) (held : Option (List ℕ)) (r : Run S) (result : Result (Unit {0}) Stop) (why : Stop) → IsErrAnd result (λ e. e ≡ why)
         → Halts codec head gives left held (λ ls l. onward codec head m l ls r) all why → LinesGo codec head gives all m m' left left' b d u held r result
     lines_exit all m m' left left' b d u held r (Ok x) why h p = absurd h
     lines_exit all m m' left left' b d u held r (Err e) why h p = subst (λ s. Halts codec head gives left held (λ ls l. onward codec head m l ls r) all s) (sym h) p
 
-    pub lines_last : (m0 m : ℕ) (left0 left : Option (List ℕ)) (all : List Numbered) (r : Run S) (at : ℕ) (b : WorldParts S) (d u : Marks) (held : Option (List ℕ)) (now : LinesLeft m0 left0 all r at m left b d u held) → drop at all ≡ []
+    pub lines_last : (m0 m : ℕ) (left0 left : Option (List ℕ)) (all : List Numbered) (r : Run S) (at : ℕ) (b : CountedParts S) (d u : Marks) (held : Option (List ℕ)) (now : LinesLeft m0 left0 all r at m left b d u held) → drop at all ≡ []
         → (s : Run S) × (IsAt codec head b d u held s × Told2 left0 left (λ l0 l. onward codec head m0 l0 all r ≡ onward codec head m l [] s))
     lines_last m0 m left0 left all r at b d u held now e = (now.now, (now.here, whole_told m0 m left0 left (take at all) all r now.now (take_all all at e) now.told))
 
     -- a line whose contract speaks of the reader's head
-    abbrev LineDid : Head → Numbered → ℕ → ℕ → Option (List ℕ) → Option (List ℕ) → WorldParts S → Marks → Marks → Option (List ℕ) → WorldParts S → Marks → Marks → Option (List ℕ) → Result (Unit {0}) Stop → Type 0
+    abbrev LineDid : Head → Numbered → ℕ → ℕ → Option (List ℕ) → Option (List ℕ) → CountedParts S → Marks → Marks → Option (List ℕ) → CountedParts S → Marks → Marks → Option (List ℕ) → Result (Unit {0}) Stop → Type 0
     LineDid h numbered m m' left left' b0 d0 u0 held0 b d u held result = (q : Run S) → IsAt codec h b0 d0 u0 held0 q → LineGoes codec h gives numbered m m' left left' b d u held q result
 
-    pub line_err : (h : Head) (m0 m m' : ℕ) (left0 left left' : Option (List ℕ)) (all : List Numbered) (numbered : Numbered) (r : Run S) (at : ℕ) (b0 b : WorldParts S) (d0 u0 d u : Marks) (held0 held : Option (List ℕ)) (result : Result (Unit {0}) Stop) (why : Stop)
+    pub line_err : (h : Head) (m0 m m' : ℕ) (left0 left left' : Option (List ℕ)) (all : List Numbered) (numbered : Numbered) (r : Run S) (at : ℕ) (b0 b : CountedParts S) (d0 u0 d u : Marks) (held0 held : Option (List ℕ)) (result : Result (Unit {0}) Stop) (why : Stop)
         (now : LinesLeft m0 left0 all r at m left b0 d0 u0 held0) → h ≡ head → result ≡ Err why → is_some left ≡ is_some left0 → drop at all ≡ numbered ∷ drop (at + 1) all
         → LineDid h numbered m m' left left' b0 d0 u0 held0 b d u held result → Halts codec head gives left0 held (λ ls l. onward codec head m0 l ls r) all why
     line_err h m0 m m' left0 left left' all numbered r at b0 b d0 u0 d u held0 held result why now same was tells e did =
@@ -155,7 +159,7 @@ module _ {S : Type 0} (codec : Coding S) (head : Head) where
         let goes : LineGoes codec head gives numbered m m' left left' b d u held now.now stopped = subst (λ (x : Result (Unit {0}) Stop). LineGoes codec head gives numbered m m' left left' b d u held now.now x) was (own now.now now.here) in
         halts_from left0 left held (λ ls l. onward codec head m0 l ls r) (λ ls l. onward codec head m l ls now.now) (take at all) (numbered ∷ drop (at + 1) all) all why (sym (split_at all at) ∙ ap (λ (xs : List Numbered). take at all ++ xs) e) tells now.told (goes (drop (at + 1) all))
 
-    pub line_ok : (h : Head) (m0 m m' : ℕ) (left0 left left' : Option (List ℕ)) (all : List Numbered) (numbered : Numbered) (r : Run S) (at : ℕ) (b0 b : WorldParts S) (d0 u0 d u : Marks) (held0 held : Option (List ℕ)) (result : Result (Unit {0}) Stop) (x : Unit {0})
+    pub line_ok : (h : Head) (m0 m m' : ℕ) (left0 left left' : Option (List ℕ)) (all : List Numbered) (numbered : Numbered) (r : Run S) (at : ℕ) (b0 b : CountedParts S) (d0 u0 d u : Marks) (held0 held : Option (List ℕ)) (result : Result (Unit {0}) Stop) (x : Unit {0})
         (now : LinesLeft m0 left0 all r at m left b0 d0 u0 held0) → h ≡ head → result ≡ Ok x → is_some left ≡ is_some left0 → drop at all ≡ numbered ∷ drop (at + 1) all
         → LineDid h numbered m m' left left' b0 d0 u0 held0 b d u held result → LinesLeft m0 left0 all r (at + 1) m' left' b d u held
     line_ok h m0 m m' left0 left left' all numbered r at b0 b d0 u0 d u held0 held result x now same was tells e did =
@@ -287,10 +291,10 @@ module _ {S : Type 0} (codec : Coding S) (head : Head) (lines : List Numbered) (
       (w.0, (head_text head, ((run_of l).0.events, ([], sym (append-nil (run_of l).0.events), sym first_text)), w.2 ∙ ap (λ (xs : List ℕ). xs ++ take w.0 (head_text head)) none))
 
   -- a session in which nothing happened, and whose header is written
-  pub begun_here : (b : WorldParts S) (d u : Marks) (old new : Option (List ℕ)) → Stands codec (session_of head) b [] → d ≡ record { marks = []; known = 0 } → u ≡ record { marks = []; known = 0 } → is_some new ≡ is_some old → IfSome old (λ xs. xs ≡ []) → Appends old new (head_text head) → IsAt codec head b d u new (begun [])
+  pub begun_here : (b : CountedParts S) (d u : Marks) (old new : Option (List ℕ)) → Stands codec (session_of head) b.world [] → b.counts ≡ no_counts → d ≡ record { marks = []; known = 0 } → u ≡ record { marks = []; known = 0 } → is_some new ≡ is_some old → IfSome old (λ xs. xs ≡ []) → Appends old new (head_text head) → IsAt codec head b d u new (begun [])
   unfolding after
-  begun_here b d u old new stands no_downs no_ups tells none w = record {
-    running = record { stands = stands; world = refl; shown = header_shown old new tells none w };
+  begun_here b d u old new stands counts no_downs no_ups tells none w = record {
+    running = record { stands = stands; counts = counts; world = refl; shown = header_shown old new tells none w };
     downs_are = subst (λ (m : Marks). AreNamed downs_in [] m) (sym no_downs) (record { marked = λ k. refl; known = λ k low high. absurd (omega (arith, low, high)) });
     ups_are = subst (λ (m : Marks). AreNamed ups_in [] m) (sym no_ups) (record { marked = λ k. refl; known = λ k low high. absurd (omega (arith, low, high)) });
   }
@@ -308,7 +312,7 @@ module _ {S : Type 0} (codec : Coding S) (head : Head) (lines : List Numbered) (
   ends_whole None t q s end e same shown = (ap (λ (x : Run S × End). x.1) e, tt)
   ends_whole (Some o) t q s end e same shown = (ap (λ (x : Run S × End). x.1) e, shown ∙ sym (ap (λ (x : Run S × End). out_text head x.0.world) e ∙ ap (λ w. out_text head w) same))
 
-  pub finish_halts : (m : ℕ) (i left left' held : Option (List ℕ)) (s : Run S) (b : WorldParts S) (why : Stop) → is_some left ≡ is_some i → IsRunning codec head b held s → Told2 i left (λ i l. run_of i ≡ onward codec head m l [] s) → FinishGives head m left left' (Err why) → RunGives codec head lines gives (end_of why) i held
+  pub finish_halts : (m : ℕ) (i left left' held : Option (List ℕ)) (s : Run S) (b : CountedParts S) (why : Stop) → is_some left ≡ is_some i → IsRunning codec head b held s → Told2 i left (λ i l. run_of i ≡ onward codec head m l [] s) → FinishGives head m left left' (Err why) → RunGives codec head lines gives (end_of why) i held
   finish_halts m i left left' held s b why tells is told f = halts_gives i held why (finished i left why tells told f)
     where
       finished : (i left : Option (List ℕ)) (why : Stop) → is_some left ≡ is_some i → Told2 i left (λ i l. run_of i ≡ onward codec head m l [] s) → FinishGives head m left left' (Err why) → Halts codec head gives i held run_by lines why
@@ -335,14 +339,24 @@ module _ {S : Type 0} (codec : Coding S) (head : Head) (lines : List Numbered) (
           memory_lacked None e shown = tt
           memory_lacked (Some o) e shown = ([], (s.events, e, shown ∙ ap (λ w. out_text head w) is.world))
 
+  -- what was counted is what the run comes to
+  pub summary_is : (held : Option (List ℕ)) (s : Run S) (b : CountedParts S) (summary : Summary) → IsRunning codec head b held s
+      → ((head : Head) (events : List WorldEvent) → Stands codec (session_of head) b.world events → summary ≡ summary_with b.counts (length (sent (after codec (session_of head) events)))) → summary ≡ summary_of s.world
+  summary_is held s b summary is said =
+      said head s.events is.stands
+      ∙ (ap (λ (w : WorldPast S). summary_with b.counts (length (sent w))) (sym is.world) ∙ ap (λ (c : Counts). summary_with c (length (sent s.world))) is.counts)
+
   -- the input was read to its end
-  pub done_gives : (m : ℕ) (i left left' held : Option (List ℕ)) (s : Run S) (b : WorldParts S) → is_some left ≡ is_some i → IsRunning codec head b held s → Told2 i left (λ i l. run_of i ≡ onward codec head m l [] s) → FinishGives head m left left' (Ok tt) → IfSome i (λ i. Ends codec head lines Done i held)
-  done_gives m None left left' held s b tells is told f = tt
-  done_gives m (Some j) None left' held s b tells is told f = absurd (not_told tells)
-  done_gives m (Some j) (Some l) left' held s b tells is told f = ends_whole held (run_of j) _ s Done (told ∙ end_at m l s None f.0) refl is.shown
+  pub done_gives : (m : ℕ) (i left left' held : Option (List ℕ)) (s : Run S) (b : CountedParts S) (summary : Summary) → is_some left ≡ is_some i → IsRunning codec head b held s → Told2 i left (λ i l. run_of i ≡ onward codec head m l [] s) → FinishGives head m left left' (Ok tt) → summary ≡ summary_of s.world
+      → IfSome i (λ i. Ends codec head lines Done i held × (summary ≡ summary_of (run_of i).0.world))
+  done_gives m None left left' held s b summary tells is told f counted = tt
+  done_gives m (Some j) None left' held s b summary tells is told f counted = absurd (not_told tells)
+  done_gives m (Some j) (Some l) left' held s b summary tells is told f counted =
+      let at : run_of j ≡ (record s { left = (clip_in head m l).pictures }, Done) = told ∙ end_at m l s None f.0 in
+      (ends_whole held (run_of j) _ s Done at refl is.shown, counted ∙ ap (λ (t : Run S × End). summary_of t.0.world) (sym at))
 
   -- the last line wasn't given
-  pub last_noted : (m : ℕ) (i left held : Option (List ℕ)) (s : Run S) (b : WorldParts S) (why : Stop) → is_some left ≡ is_some i → IsRunning codec head b held s → Told2 i left (λ i l. run_of i ≡ onward codec head m l [] s) → IsNoted gives (Err why) → RunGives codec head lines gives (end_of why) i held
+  pub last_noted : (m : ℕ) (i left held : Option (List ℕ)) (s : Run S) (b : CountedParts S) (why : Stop) → is_some left ≡ is_some i → IsRunning codec head b held s → Told2 i left (λ i l. run_of i ≡ onward codec head m l [] s) → IsNoted gives (Err why) → RunGives codec head lines gives (end_of why) i held
   last_noted m i left held s b why tells is told n = halts_gives i held why (noted i left why tells told n)
     where
       part : (held : Option (List ℕ)) (j : List ℕ) → (run_of j).0.events ≡ s.events → IfSome held (λ o. o ≡ out_text head s.world) → IfSome held (λ o. PartlyOf codec head (run_of j).0.events o)
@@ -368,32 +382,39 @@ module _ {S : Type 0} (codec : Coding S) (head : Head) (lines : List Numbered) (
       subst (λ (ls : List Numbered). Told2 i left (λ i l. onward codec head (most head) i ls (begun []) ≡ onward codec head m' l [] s)) same
       (subst (λ (k : ℕ). Told2 i left (λ i l. onward codec head k i all (begun []) ≡ onward codec head m' l [] s)) e told)
 
-  pub run_exit : (i o : Option (List ℕ)) (result : Result (Unit {0}) Stop) (why : Stop) → IsErrAnd result (λ e. e ≡ why) → RunGives codec head lines gives (end_of why) i o → RunGives codec head lines gives (run_end result) i o
+  pub run_exit : (i o : Option (List ℕ)) (result : Result Summary Stop) (why : Stop) → IsErrAnd result (λ e. e ≡ why) → RunGives codec head lines gives (end_of why) i o → RunGives codec head lines gives (run_end result) i o
   run_exit i o (Ok x) why h p = absurd h
   run_exit i o (Err e) why h p = subst (λ (s : Stop). RunGives codec head lines gives (end_of s) i o) (sym h) p
 
   -- a line stopped the run
-  pub lines_gives : (m : ℕ) (i o : Option (List ℕ)) (all : List Numbered) (result : Result (Unit {0}) Stop) (why : Stop) → m ≡ most head → all ≡ lines → IsErrAnd result (λ e. e ≡ why) → Halts codec head gives i o (λ ls l. onward codec head m l ls (begun [])) all why → RunGives codec head lines gives (run_end result) i o
+  pub lines_gives : (m : ℕ) (i o : Option (List ℕ)) (all : List Numbered) (result : Result Summary Stop) (why : Stop) → m ≡ most head → all ≡ lines → IsErrAnd result (λ e. e ≡ why) → Halts codec head gives i o (λ ls l. onward codec head m l ls (begun [])) all why → RunGives codec head lines gives (run_end result) i o
   lines_gives m i o all result why e same h p =
       run_exit i o result why h
       (halts_gives i o why (subst (λ (xs : List Numbered). Halts codec head gives i o (λ ls l. onward codec head (most head) l ls (begun [])) xs why) same (subst (λ (k : ℕ). Halts codec head gives i o (λ ls l. onward codec head k l ls (begun [])) all why) e p)))
 
   -- the rest of the input stopped the run
-  pub finish_gives : (h : Head) (m m' : ℕ) (i left left' held : Option (List ℕ)) (all : List Numbered) (b : WorldParts S) (d u : Marks) (result : Result (Unit {0}) Stop) (why : Stop) → h ≡ head → m ≡ most head → all ≡ lines → is_some left ≡ is_some i
+  pub finish_gives : (h : Head) (m m' : ℕ) (i left left' held : Option (List ℕ)) (all : List Numbered) (b : CountedParts S) (d u : Marks) (result : Result Summary Stop) (why : Stop) → h ≡ head → m ≡ most head → all ≡ lines → is_some left ≡ is_some i
       → ((s : Run S) × (IsAt codec head b d u held s × Told2 i left (λ i l. onward codec head m i all (begun []) ≡ onward codec head m' l [] s))) → IsErrAnd result (λ e. e ≡ why) → FinishGives h m' left left' (Err why) → RunGives codec head lines gives (run_end result) i held
   finish_gives h m m' i left left' held all b d u result why same_head e same tells s is f =
       run_exit i held result why is
       (finish_halts m' i left left' held s.0 b why tells s.1.0.running (told_start m m' i left all s.0 e same s.1.1) (subst (λ x. FinishGives x m' left left' (Err why)) same_head f))
 
-  pub note_gives : (h : Head) (m m' : ℕ) (i left left' held : Option (List ℕ)) (all : List Numbered) (b : WorldParts S) (d u : Marks) (result : Result (Unit {0}) Stop) → h ≡ head → m ≡ most head → all ≡ lines → is_some left ≡ is_some i
-      → ((s : Run S) × (IsAt codec head b d u held s × Told2 i left (λ i l. onward codec head m i all (begun []) ≡ onward codec head m' l [] s))) → FinishGives h m' left left' (Ok tt) → IsNoted gives result → RunGives codec head lines gives (run_end result) i held
-  note_gives h m m' i left left' held all b d u (Ok x) same_head e same tells s f n =
-      done_gives m' i left left' held s.0 b tells s.1.0.running (told_start m m' i left all s.0 e same s.1.1) (subst (λ x. FinishGives x m' left left' (Ok tt)) same_head f)
-  note_gives h m m' i left left' held all b d u (Err why) same_head e same tells s f n = last_noted m' i left held s.0 b why tells s.1.0.running (told_start m m' i left all s.0 e same s.1.1) n
+  -- the last line stopped the run
+  pub note_stops : (m m' : ℕ) (i left held : Option (List ℕ)) (all : List Numbered) (b : CountedParts S) (d u : Marks) (result : Result Summary Stop) (why : Stop) → m ≡ most head → all ≡ lines → is_some left ≡ is_some i
+      → ((s : Run S) × (IsAt codec head b d u held s × Told2 i left (λ i l. onward codec head m i all (begun []) ≡ onward codec head m' l [] s))) → IsErrAnd result (λ e. e ≡ why) → IsNoted gives (Err why) → RunGives codec head lines gives (run_end result) i held
+  note_stops m m' i left held all b d u result why e same tells s is n =
+      run_exit i held result why is (last_noted m' i left held s.0 b why tells s.1.0.running (told_start m m' i left all s.0 e same s.1.1) n)
+
+  -- all went well
+  pub well_gives : (h : Head) (m m' : ℕ) (i left left' held : Option (List ℕ)) (all : List Numbered) (b : CountedParts S) (d u : Marks) (summary : Summary) → h ≡ head → m ≡ most head → all ≡ lines → is_some left ≡ is_some i
+      → ((s : Run S) × (IsAt codec head b d u held s × Told2 i left (λ i l. onward codec head m i all (begun []) ≡ onward codec head m' l [] s))) → FinishGives h m' left left' (Ok tt)
+      → ((head : Head) (events : List WorldEvent) → Stands codec (session_of head) b.world events → summary ≡ summary_with b.counts (length (sent (after codec (session_of head) events)))) → RunGives codec head lines gives (run.Ok summary) i held
+  well_gives h m m' i left left' held all b d u summary same_head e same tells s f said =
+      done_gives m' i left left' held s.0 b summary tells s.1.0.running (told_start m m' i left all s.0 e same s.1.1) (subst (λ x. FinishGives x m' left left' (Ok tt)) same_head f) (summary_is held s.0 b summary s.1.0.running said)
 
 -- ---- causes
 
-pub read_cause : (a b : ℕ) (why : Stop) → HasCause {A = Result (Unit {0}) Stop} (Err stop.ReadFault) a b (Err why) → HasCause run.ReadFault a b (end_of why)
+pub read_cause : (a b : ℕ) (why : Stop) → HasCause {A = Result Summary Stop} (Err stop.ReadFault) a b (Err why) → HasCause run.ReadFault a b (end_of why)
 read_cause a b why h = record { later = h.later; rose = λ e. h.rose (ap (λ (s : Stop). Err s) (is_read why e)) }
   where
     is_read : (why : Stop) → end_of why ≡ run.ReadFault → why ≡ stop.ReadFault
@@ -408,7 +429,7 @@ read_cause a b why h = record { later = h.later; rose = λ e. h.rose (ap (λ (s 
     is_read (stop.Diary diary.Memory) e = absurd cc
     is_read stop.Memory e = absurd cc
 
-pub out_cause : (a b : ℕ) (why : Stop) → HasCause {A = Result (Unit {0}) Stop} (Err stop.Out) a b (Err why) → HasCause (run.WriteFault Out) a b (end_of why)
+pub out_cause : (a b : ℕ) (why : Stop) → HasCause {A = Result Summary Stop} (Err stop.Out) a b (Err why) → HasCause (run.WriteFault Out) a b (end_of why)
 out_cause a b why h = record { later = h.later; rose = λ e. h.rose (ap (λ (s : Stop). Err s) (is_out why e)) }
   where
     is_out : (why : Stop) → end_of why ≡ run.WriteFault Out → why ≡ stop.Out
@@ -423,7 +444,7 @@ out_cause a b why h = record { later = h.later; rose = λ e. h.rose (ap (λ (s :
     is_out (stop.Diary diary.Memory) e = absurd cc
     is_out stop.Memory e = absurd cc
 
-pub journal_cause : (a b : ℕ) (why : Stop) → HasCause {A = Result (Unit {0}) Stop} (Err (stop.Diary diary.Failed)) a b (Err why) → HasCause (run.WriteFault Journal) a b (end_of why)
+pub journal_cause : (a b : ℕ) (why : Stop) → HasCause {A = Result Summary Stop} (Err (stop.Diary diary.Failed)) a b (Err why) → HasCause (run.WriteFault Journal) a b (end_of why)
 journal_cause a b why h = record { later = h.later; rose = λ e. h.rose (ap (λ (s : Stop). Err s) (is_journal why e)) }
   where
     is_journal : (why : Stop) → end_of why ≡ run.WriteFault Journal → why ≡ stop.Diary diary.Failed

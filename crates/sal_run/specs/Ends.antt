@@ -13,6 +13,7 @@ use Rattle.sal_run.specs.declared.end.Which.TheVariants.{Out, Journal, Pictures,
 use Rattle.sal_run.specs.declared.end.RunEnd.{RunEnd}
 use Rattle.sal_run.specs.declared.end.RunEnd.TheVariants as run
 use Rattle.sal_run.specs.Clip.{End, Done, BadInput, BadScript, TooMany, TooLong}
+use Rattle.sal_run.specs.Summary.{summary_of}
 use Rattle.sal_run.specs.Loop.{session_of, out_text, clip_run}
 
 -- no event came after these, or the next one started a picture
@@ -64,7 +65,7 @@ module _ {S : Type 0} (codec : Coding S) (head : Head) (lines : List Numbered) w
 
   -- what a run gives with a diary that gives these faults
   abbrev pub RunGives : (DiaryFault → Bool) → RunEnd → Option (List ℕ) → Option (List ℕ) → Type 0
-  RunGives gives run.Ok i o = IfSome i (λ i. Ends Done i o)
+  RunGives gives (run.Ok summary) i o = IfSome i (λ i. Ends Done i o × (summary ≡ summary_of (clip_run codec head i lines).0.world))
   RunGives gives (run.BadInput place why) i o = IfSome i (λ i. Ends (BadInput place why) i o)
   RunGives gives (run.BadScript line) i o = IfSome i (λ i. Ends (BadScript line) i o)
   RunGives gives run.TooMany i o = IfSome i (λ i. Ends TooMany i o)
@@ -89,5 +90,5 @@ pub record LeavesNothing {S : Type 0} (codec : Coding S) (head : Head) (lines : 
 
 -- what was read is read to its end where all went well
 abbrev pub AtEnd : RunEnd → Option (List ℕ) → Type 0
-AtEnd run.Ok left = IfSome left (λ xs. xs ≡ [])
+AtEnd (run.Ok summary) left = IfSome left (λ xs. xs ≡ [])
 AtEnd _ left = Unit {0}

@@ -9,7 +9,7 @@ use Rattle.sal_y4m.specs.Grammar.{picture_at}
 use Rattle.sal_script.specs.declared.line.ScriptLine.{ScriptLine}
 use Rattle.sal_script.specs.declared.line.ScriptLine.TheVariants.{Next, NextLate}
 use Rattle.sal_script.specs.Numbered.{Numbered}
-use Rattle.sal_world.specs.WorldParts.{WorldParts}
+use Rattle.sal_run.specs.CountedParts.{CountedParts}
 use Rattle.sal_world.specs.World.{WorldEvent, after}
 use Rattle.sal_world.specs.Script.{Run}
 use Rattle.sal_world.specs.declared.diary.DiaryFault.{DiaryFault}
@@ -105,12 +105,12 @@ module _ {S : Type 0} (codec : Coding S) (head : Head) where
   Halts gives left held final lines stop.Memory = Told2 left held (λ l o. PartlyOf codec head (final lines l).0.events o)
 
   -- this line was run, and the run goes on with those that come after it, whatever they are, or it stops
-  abbrev pub LineGoes : {X : Type 0} → (DiaryFault → Bool) → Numbered → ℕ → ℕ → Option (List ℕ) → Option (List ℕ) → WorldParts S → Marks → Marks → Option (List ℕ) → Run S → Result X Stop → Type 0
+  abbrev pub LineGoes : {X : Type 0} → (DiaryFault → Bool) → Numbered → ℕ → ℕ → Option (List ℕ) → Option (List ℕ) → CountedParts S → Marks → Marks → Option (List ℕ) → Run S → Result X Stop → Type 0
   LineGoes gives numbered m m' left left' b downs ups held r (Ok x) =
       (s : Run S) × (IsAt codec head b downs ups held s × Told2 left left' (λ l l'. (more : List Numbered) → onward m l (numbered ∷ more) r ≡ onward m' l' more s))
   LineGoes gives numbered m m' left left' b downs ups held r (Err why) = (more : List Numbered) → Halts gives left held (λ ls l. onward m l ls r) (numbered ∷ more) why
 
   -- all these lines were run, or the run stops
-  abbrev pub LinesGo : (DiaryFault → Bool) → List Numbered → ℕ → ℕ → Option (List ℕ) → Option (List ℕ) → WorldParts S → Marks → Marks → Option (List ℕ) → Run S → Result (Unit {0}) Stop → Type 0
+  abbrev pub LinesGo : (DiaryFault → Bool) → List Numbered → ℕ → ℕ → Option (List ℕ) → Option (List ℕ) → CountedParts S → Marks → Marks → Option (List ℕ) → Run S → Result (Unit {0}) Stop → Type 0
   LinesGo gives lines m m' left left' b downs ups held r (Ok x) = (s : Run S) × (IsAt codec head b downs ups held s × Told2 left left' (λ l l'. onward m l lines r ≡ onward m' l' [] s))
   LinesGo gives lines m m' left left' b downs ups held r (Err why) = Halts gives left held (λ ls l. onward m l ls r) lines why

@@ -1,8 +1,11 @@
 pub mod Front
 pub mod Clip
+pub mod Summary
 pub mod Loop
 pub mod Ends
 pub mod Marks
+pub mod Counts
+pub mod CountedParts
 pub mod Named
 pub mod Stops
 pub mod Running

@@ -6,7 +6,8 @@ use Rattle.sal_y4m.specs.declared.head.Head.{Head}
 use Rattle.sal_y4m.specs.Grammar.{picture_text}
 use Rattle.sal_receiver.specs.declared.answers.Done.{Done}
 use Rattle.sal_receiver.specs.declared.answers.Done.TheVariants.{Show}
-use Rattle.sal_world.specs.WorldParts.{WorldParts}
+use Rattle.sal_run.specs.CountedParts.{CountedParts}
+use Rattle.sal_run.specs.Counts.{counts_of}
 use Rattle.sal_world.specs.World.{WorldEvent, after}
 use Rattle.sal_world.specs.Stands.{Stands}
 use Rattle.sal_world.specs.Script.{Run, downs_in, ups_in}
@@ -42,9 +43,10 @@ IsNoted gives (Err (Diary fault)) = gives fault ≡ true
 IsNoted gives (Err _) = ⊥
 
 module _ {S : Type 0} (codec : Coding S) (head : Head) where
-  -- the world stands for the events of a run, and the output holds the header and the pictures shown
-  pub record IsRunning (b : WorldParts S) (held : Option (List ℕ)) (r : Run S) : Type 0 where
-    pub stands : Stands codec (session_of head) b r.events
+  -- the world stands for the events of a run, the counts are those of its answers, and the output holds the header and the pictures shown
+  pub record IsRunning (b : CountedParts S) (held : Option (List ℕ)) (r : Run S) : Type 0 where
+    pub stands : Stands codec (session_of head) b.world r.events
+    pub counts : b.counts ≡ counts_of r.world
     pub world : r.world ≡ after codec (session_of head) r.events
     pub shown : IfSome held (λ o. o ≡ out_text head r.world)
 
@@ -64,16 +66,16 @@ module _ {S : Type 0} (codec : Coding S) (head : Head) where
   Stopped gives held events _ = ⊥
 
   -- a step made this of a run, or stopped
-  abbrev pub Goes : {X : Type 0} → (DiaryFault → Bool) → WorldParts S → Option (List ℕ) → Run S → Result X Stop → Type 0
+  abbrev pub Goes : {X : Type 0} → (DiaryFault → Bool) → CountedParts S → Option (List ℕ) → Run S → Result X Stop → Type 0
   Goes gives b held r (Ok x) = IsRunning b held r
   Goes gives b held r (Err stop) = Stopped gives held r.events stop
 
   -- the same, with the numbers that the events named
-  pub record IsAt (b : WorldParts S) (downs ups : Marks) (held : Option (List ℕ)) (r : Run S) : Type 0 where
+  pub record IsAt (b : CountedParts S) (downs ups : Marks) (held : Option (List ℕ)) (r : Run S) : Type 0 where
     pub running : IsRunning b held r
     pub downs_are : AreNamed downs_in r.events downs
     pub ups_are : AreNamed ups_in r.events ups
 
-  abbrev pub Comes : {X : Type 0} → (DiaryFault → Bool) → WorldParts S → Marks → Marks → Option (List ℕ) → Run S → Result X Stop → Type 0
+  abbrev pub Comes : {X : Type 0} → (DiaryFault → Bool) → CountedParts S → Marks → Marks → Option (List ℕ) → Run S → Result X Stop → Type 0
   Comes gives b downs ups held r (Ok x) = IsAt b downs ups held r
   Comes gives b downs ups held r (Err stop) = Stopped gives held r.events stop

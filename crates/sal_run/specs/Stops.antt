@@ -4,6 +4,7 @@ use Rattle.sal_y4m.specs.declared.fault.Y4mFault.{Y4mFault}
 use Rattle.sal_y4m.specs.declared.fault.Y4mFault.TheVariants as y4m
 use Rattle.sal_world.specs.declared.diary.DiaryFault.TheVariants as diary
 use Rattle.sal_run.specs.declared.end.Which.TheVariants.{Out as OutFile, Journal}
+use Rattle.sal_run.specs.declared.end.Summary.{Summary}
 use Rattle.sal_run.specs.declared.end.RunEnd.{RunEnd}
 use Rattle.sal_run.specs.declared.end.RunEnd.TheVariants as run
 use Rattle.sal_run.specs.declared.stop.Stop.{Stop}
@@ -28,6 +29,6 @@ stop_of y4m.ReadFault = ReadFault
 stop_of y4m.Memory = Memory
 
 -- how a run ends that stops, or doesn't
-abbrev pub run_end : Result (Unit {0}) Stop → RunEnd
-run_end (Ok x) = run.Ok
+abbrev pub run_end : Result Summary Stop → RunEnd
+run_end (Ok summary) = run.Ok summary
 run_end (Err stop) = end_of stop

@@ -11,11 +11,28 @@ pub enum Which {
     Journal,
 }
 
+/// What a run counted; each count but that of the datagrams stays at the greatest u32.
+#[derive(Clone, Copy, Debug, PartialEq, Eq)]
+pub struct Summary {
+    /// The pictures that were started.
+    pub pictures: u32,
+    /// The choices of a frame.
+    pub chosen: u32,
+    /// The choices of nothing, where nothing fitted.
+    pub nothing: u32,
+    /// The choices of a key frame.
+    pub keys: u32,
+    /// The datagrams that were sent.
+    pub datagrams: u32,
+    /// The pictures that were shown.
+    pub shown: u32,
+}
+
 /// How a run ends.
 #[derive(Clone, Copy, Debug, PartialEq, Eq)]
 pub enum RunEnd {
     /// All lines were run, and the input was read to its end.
-    Ok,
+    Ok(Summary),
     /// The input isn't in the grammar: at this byte, for this reason.
     BadInput(u64, Why),
     /// This line of the script, counted from 1, needs a picture and none is left, or names a number that wasn't sent.

@@ -14,6 +14,7 @@ ghost use Rattle.sal_world.specs.Script.{Run, with_event};
 ghost use Rattle.sal_run.specs.Loop.{session_of};
 ghost use Rattle.sal_run.specs.Running.{IsNoted, IsRunning, Goes, Shows, text_of};
 
+use crate::counted::Counted;
 use crate::lines::{
     chosen_line, done_line, down_line, is_late, next_line, ready_line, size_of, up_line,
 };
@@ -23,7 +24,7 @@ use sal_codec::Codec;
 use sal_io::Sink;
 use sal_receiver::{DecodeOutcome, Decoding, Delivered, Done, Ready};
 use sal_sender::{Job, Next, Report};
-use sal_world::{ChooseAnswer, Diary, DiaryFault, Line, Unsent, World};
+use sal_world::{ChooseAnswer, Diary, DiaryFault, Line, Unsent};
 use sal_y4m::Writer;
 use std::sync::Arc;
 
@@ -44,7 +45,7 @@ pub(crate) fn note<J: Diary>(journal: &mut J, line: Option<Line>) -> Result<(), 
 
 // The picture of a number is started.
 pub(crate) fn start<C: Codec, J: Diary>(
-    world: &mut World<C>,
+    world: &mut Counted<C>,
     number: u32,
     picture: Arc<Picture>,
     journal: &mut J,
@@ -54,15 +55,18 @@ pub(crate) fn start<C: Codec, J: Diary>(
     ensures journal_cause { HasCause (Err (Stop.Diary DiaryFault.Failed)) (J.faults journal.old) (J.faults journal.new) result }
     ensures never { result ≢ Err Stop.Out }
 {
-    match world.next_picture(picture) {
+    match world.world.next_picture(picture) {
         Next::Memory => Err(Stop::Memory),
-        answer => note(journal, next_line(number, answer)),
+        answer => {
+            world.counts.start(answer);
+            note(journal, next_line(number, answer))
+        }
     }
 }
 
 // The next job is handed out, which waits.
 pub(crate) fn take<C: Codec, J: Diary>(
-    world: &mut World<C>,
+    world: &mut Counted<C>,
     journal: &mut J,
 ) -> Result<Job<C>, Stop>
     requires runs { (head : HeadData) × ((r : Run C.State) × ((held : Option (List ℕ)) × (IsRunning C.coding head world.old held r × IsSome (next_job C.coding r.world.sender)))) }
@@ -71,14 +75,14 @@ pub(crate) fn take<C: Codec, J: Diary>(
     ensures journal_cause { HasCause (Err (Stop.Diary DiaryFault.Failed)) (J.faults journal.old) (J.faults journal.new) result }
     ensures never { result ≢ Err Stop.Out }
 {
-    let job = world.take_job().unwrap();
+    let job = world.world.take_job().unwrap();
     note(journal, Some(Line::Take(job.id(), job.role())))?;
     Ok(job)
 }
 
 // A job that was handed out is reported.
 pub(crate) fn report<C: Codec, J: Diary>(
-    world: &mut World<C>,
+    world: &mut Counted<C>,
     report: Report<C>,
     journal: &mut J,
 ) -> Result<(), Stop>
@@ -91,20 +95,26 @@ pub(crate) fn report<C: Codec, J: Diary>(
     let Some(size) = size_of(&report) else {
         return Err(Stop::Memory);
     };
-    let answer = world.report(report);
+    let answer = world.world.report(report);
     note(journal, Some(Line::Report(id, size, is_late(answer))))
 }
 
 // One of the reports is chosen.
-pub(crate) fn choose<C: Codec, J: Diary>(world: &mut World<C>, journal: &mut J) -> Result<(), Stop>
+pub(crate) fn choose<C: Codec, J: Diary>(
+    world: &mut Counted<C>,
+    journal: &mut J,
+) -> Result<(), Stop>
     requires runs { (head : HeadData) × ((r : Run C.State) × ((held : Option (List ℕ)) × IsRunning C.coding head world.old held r)) }
     ensures goes { (head : HeadData) (r : Run C.State) (held : Option (List ℕ)) → IsRunning C.coding head world.old held r → Goes C.coding head J.gives world.new held (with_event C.coding (session_of head) WorldEvent.Chooses r) result }
     ensures journal_cause { HasCause (Err (Stop.Diary DiaryFault.Failed)) (J.faults journal.old) (J.faults journal.new) result }
     ensures never { result ≢ Err Stop.Out }
 {
-    match world.choose() {
+    match world.world.choose() {
         ChooseAnswer::Memory => Err(Stop::Memory),
-        answer => note(journal, chosen_line(answer)),
+        answer => {
+            world.counts.choose(&answer);
+            note(journal, chosen_line(answer))
+        }
     }
 }
 
@@ -117,7 +127,7 @@ fn is_memory(answer: &Result<Delivered, Unsent>) -> bool
 
 // The datagram of a number comes to the receiver.
 pub(crate) fn deliver<C: Codec, J: Diary>(
-    world: &mut World<C>,
+    world: &mut Counted<C>,
     which: u32,
     journal: &mut J,
 ) -> Result<(), Stop>
@@ -126,7 +136,7 @@ pub(crate) fn deliver<C: Codec, J: Diary>(
     ensures journal_cause { HasCause (Err (Stop.Diary DiaryFault.Failed)) (J.faults journal.old) (J.faults journal.new) result }
     ensures never { result ≢ Err Stop.Out }
 {
-    let answer = world.deliver(which);
+    let answer = world.world.deliver(which);
     if is_memory(&answer) {
         return Err(Stop::Memory);
     }
@@ -135,7 +145,7 @@ pub(crate) fn deliver<C: Codec, J: Diary>(
 
 // The acknowledgement of a number comes back to the sender.
 pub(crate) fn hear<C: Codec, J: Diary>(
-    world: &mut World<C>,
+    world: &mut Counted<C>,
     which: u64,
     journal: &mut J,
 ) -> Result<(), Stop>
@@ -144,13 +154,13 @@ pub(crate) fn hear<C: Codec, J: Diary>(
     ensures journal_cause { HasCause (Err (Stop.Diary DiaryFault.Failed)) (J.faults journal.old) (J.faults journal.new) result }
     ensures never { result ≢ Err Stop.Out }
 {
-    let line = up_line(which, &world.hear(which));
+    let line = up_line(which, &world.world.hear(which));
     note(journal, line)
 }
 
 // A moment comes.
 pub(crate) fn pass<C: Codec, J: Diary>(
-    world: &mut World<C>,
+    world: &mut Counted<C>,
     moment: u64,
     journal: &mut J,
 ) -> Result<(), Stop>
@@ -159,13 +169,13 @@ pub(crate) fn pass<C: Codec, J: Diary>(
     ensures journal_cause { HasCause (Err (Stop.Diary DiaryFault.Failed)) (J.faults journal.old) (J.faults journal.new) result }
     ensures never { result ≢ Err Stop.Out }
 {
-    let now = world.pass(moment);
+    let now = world.world.pass(moment);
     note(journal, Some(Line::Moment(now)))
 }
 
 // The next ready frame is handed out, if there is one.
 pub(crate) fn ready<C: Codec, J: Diary>(
-    world: &mut World<C>,
+    world: &mut Counted<C>,
     journal: &mut J,
 ) -> Result<Option<Ready<C>>, Stop>
     requires runs { (head : HeadData) × ((r : Run C.State) × ((held : Option (List ℕ)) × IsRunning C.coding head world.old held r)) }
@@ -174,7 +184,7 @@ pub(crate) fn ready<C: Codec, J: Diary>(
     ensures journal_cause { HasCause (Err (Stop.Diary DiaryFault.Failed)) (J.faults journal.old) (J.faults journal.new) result }
     ensures never { result ≢ Err Stop.Out }
 {
-    let frame = world.take_ready();
+    let frame = world.world.take_ready();
     note(journal, ready_line(&frame))?;
     Ok(frame)
 }
@@ -208,7 +218,7 @@ fn show<K: Sink, J: Diary>(done: &Done, out: &mut Writer<K>, journal: &mut J) ->
 
 // A frame that was handed out was decoded, and is shown unless a number at least as great was.
 pub(crate) fn decoded<C: Codec, K: Sink, J: Diary>(
-    world: &mut World<C>,
+    world: &mut Counted<C>,
     decoding: Decoding<C>,
     out: &mut Writer<K>,
     journal: &mut J,
@@ -225,6 +235,7 @@ pub(crate) fn decoded<C: Codec, K: Sink, J: Diary>(
     if lacked_memory(&decoding) {
         return Err(Stop::Memory);
     }
-    let done = world.decoded(decoding);
+    let done = world.world.decoded(decoding);
+    world.counts.show(&done);
     show(&done, out, journal)
 }

@@ -8,11 +8,13 @@ ghost use Rattle.sal_world.specs.Promises.{HasSize};
 ghost use Rattle.sal_world.specs.Stands.{Stands};
 ghost use Rattle.sal_world.specs.Script.{Run, next_picture, down, up, down_all, up_all, wait};
 ghost use Rattle.sal_run.specs.Loop.{session_of};
+ghost use Rattle.sal_run.specs.Counts.{no_counts};
 ghost use Rattle.sal_run.specs.Named.{IsMarked};
 ghost use Rattle.sal_run.specs.Running.{IsAt, Comes};
 ghost use Rattle.sal_run.specs.Turns.{is_late, exchange};
 ghost use Rattle.sal_run.specs.Walk.{unless_marked};
 
+use crate::counted::Counted;
 use crate::events::{deliver, hear, pass};
 use crate::named::Named;
 use crate::stage::Stage;
@@ -20,7 +22,7 @@ use crate::stop::Stop;
 use sal_base::Picture;
 use sal_codec::Codec;
 use sal_io::Sink;
-use sal_world::{Diary, DiaryFault, World};
+use sal_world::{Diary, DiaryFault};
 use sal_y4m::{Head, Writer};
 use std::alloc::Global;
 
@@ -36,14 +38,13 @@ impl<C: Codec> Play<C> {
     /// A session in which nothing happened yet.
     pub(crate) fn new(alloc: Global, codec: C, head: Head) -> Result<Play<C>, Stop>
         requires { IsHead head }
-        ensures stands { IfOk result (λ p. Stands C.coding (session_of head) p.stage.world []) }
+        ensures stands { IfOk result (λ p. Stands C.coding (session_of head) p.stage.world.world []) }
+        ensures counts { IfOk result (λ p. p.stage.world.counts ≡ no_counts) }
         ensures downs { IfOk result (λ p. p.downs ≡ record { marks = []; known = 0 }) }
         ensures ups { IfOk result (λ p. p.ups ≡ record { marks = []; known = 0 }) }
         ensures memory { IfErr result (λ stop. stop ≡ Stop.Memory) }
     {
-        let Ok(world) = World::new(alloc, codec, head) else {
-            return Err(Stop::Memory);
-        };
+        let world = Counted::new(alloc, codec, head)?;
         Ok(Play {
             stage: Stage {
                 alloc,

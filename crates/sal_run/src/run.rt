@@ -11,7 +11,7 @@ ghost use Rattle.sal_run.specs.Ends.{RunGives, KeepsPromises, LeavesNothing, AtE
 ghost use Rattle.sal_run.specs.Stops.{end_of, run_end};
 ghost use Rattle.sal_run.specs.Running.{IsAt, Opened};
 
-use crate::end::{RunEnd, Which};
+use crate::end::{RunEnd, Summary, Which};
 use crate::events::note;
 use crate::input::{Feed, finish, most};
 use crate::laws::every_run_keeps_its_promises;
@@ -73,7 +73,7 @@ fn play_all<C: Codec, S: Source, K: Sink, J: Diary>(
     pictures: &mut Reader<S>,
     out: &mut Writer<K>,
     journal: &mut J,
-) -> Result<(), Stop>
+) -> Result<Summary, Stop>
     requires fresh { pictures.old.kept ≡ None }
     requires narrow { IsNarrow pictures.old.head }
     requires open { out.old.failed ≡ false }
@@ -97,7 +97,8 @@ fn play_all<C: Codec, S: Source, K: Sink, J: Diary>(
     let said = script.lines();
     lines(play, said, pictures, &mut feed, out, journal)?;
     finish(alloc, pictures, &mut feed)?;
-    note(journal, Some(Line::End))
+    note(journal, Some(Line::End))?;
+    Ok(play.stage.world.summary())
 }
 
 /// Begins a session and runs it.
@@ -108,7 +109,7 @@ fn run<C: Codec, S: Source, K: Sink, J: Diary>(
     script: &Script,
     out: &mut Writer<K>,
     journal: &mut J,
-) -> Result<(), Stop>
+) -> Result<Summary, Stop>
     requires fresh { pictures.old.kept ≡ None }
     requires narrow { IsNarrow pictures.old.head }
     requires open { out.old.failed ≡ false }
@@ -163,7 +164,7 @@ pub fn run_alone<C: Codec, S: Source, K: Sink, J: Diary>(
 {
     every_run_keeps_its_promises::<C>();
     match run(alloc, codec, pictures, script, out, journal) {
-        Ok(()) => RunEnd::Ok,
+        Ok(summary) => RunEnd::Ok(summary),
         Err(stop) => end_of(stop),
     }
 }

@@ -10,13 +10,14 @@ ghost use Rattle.sal_run.specs.Loop.{session_of};
 ghost use Rattle.sal_run.specs.Running.{IsRunning, Goes};
 ghost use Rattle.sal_run.specs.Turns.{is_fine_role, is_late, is_job, is_frame, one_job, one_frame};
 
+use crate::counted::Counted;
 use crate::events::{choose, decoded, ready, report, start, take};
 use crate::stop::Stop;
 use sal_base::Picture;
 use sal_codec::Codec;
 use sal_io::Sink;
 use sal_sender::JobRole;
-use sal_world::{Diary, DiaryFault, World};
+use sal_world::{Diary, DiaryFault};
 use sal_y4m::Writer;
 use std::alloc::Global;
 use std::sync::Arc;
@@ -26,7 +27,7 @@ use std::sync::Arc;
 pub(crate) struct Stage<C: Codec> {
     pub alloc: Global,
     pub codec: C,
-    pub world: World<C>,
+    pub world: Counted<C>,
 }
 
 /// A picture has at most so many jobs.

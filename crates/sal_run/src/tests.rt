@@ -6,7 +6,7 @@ use sal_codec::Plain;
 use sal_io::{MemSink, MemSource};
 use sal_script::read_script;
 use sal_sender::{JobRole, Size};
-use sal_world::{Diary, DiaryFault, Line, ReportSize};
+use sal_world::{Diary, DiaryFault, Line, NoDiary, ReportSize};
 use sal_y4m::{Reader, Writer};
 use std::alloc::{AllocError, Global};
 use std::test::Fail;
@@ -23,6 +23,10 @@ const NAME_90: Name = Name([
 ]);
 
 // A key frame of luma 128, one of luma 90, and an inter frame of that.
+// A picture that is lost, after one that was acknowledged.
+const SIX: &[u8] =
+    b"next\ndown 1\nup 1\nnext\nnext\ndown 3\nup 2\nnext\ndown 4\nup 3\nnext\ndown 5\nup 4\nnext\ndown 6\n";
+
 const KEY_128: ReportSize = ReportSize::Frame(389, NAME_128);
 
 const KEY_90: ReportSize = ReportSize::Frame(389, NAME_90);
@@ -146,6 +150,19 @@ fn run_of<J: Diary>(
     Ok(Some(run_alone(alloc, Plain, &mut pictures, &script, &mut out, journal)))
 }
 
+// A summary of pictures, choices, those of nothing, key frames, datagrams and pictures shown.
+fn summary(counts: [u32; 6]) -> Summary {
+    let [pictures, chosen, nothing, keys, datagrams, shown] = counts;
+    Summary {
+        pictures,
+        chosen,
+        nothing,
+        keys,
+        datagrams,
+        shown,
+    }
+}
+
 // Whether a run ends well and gives these notes, and then those.
 fn gives(
     alloc: Global,
@@ -161,7 +178,8 @@ fn gives(
     };
     let end = run_of(alloc, lumas, text, &mut notes)?;
     let kept = notes.kept.as_slice();
-    Ok(end == Some(RunEnd::Ok) && kept.starts_with(first) && kept.get(first.len()..) == Some(then))
+    let well = matches!(end, Some(RunEnd::Ok(_)));
+    Ok(well && kept.starts_with(first) && kept.get(first.len()..) == Some(then))
 }
 
 #[test]
@@ -406,7 +424,7 @@ fn no_line_is_given_after_a_fault(rt: HostRuntime) -> Result<(), Fail> {
     }
     assert_eq!(rt;
         stopped(alloc, 9, DiaryFault::Failed)?,
-        (Some(RunEnd::Ok), 8)
+        (Some(RunEnd::Ok(summary([1, 1, 0, 1, 1, 0]))), 8)
     );
     assert_eq!(rt;
         stopped(alloc, 4, DiaryFault::TooLong)?,
@@ -416,5 +434,51 @@ fn no_line_is_given_after_a_fault(rt: HostRuntime) -> Result<(), Fail> {
         stopped(alloc, 4, DiaryFault::Memory)?,
         (Some(RunEnd::Memory), 4)
     );
+    Ok(())
+}
+
+#[test]
+fn what_a_run_counts(rt: HostRuntime) -> Result<(), Fail> {
+    let alloc = rt.alloc();
+    let six = [128, 100, 72, 44, 90, 60];
+    // the pictures, the script, and the counts: no picture, one, frames whose source didn't come, a return after a loss, all
+    // pictures left, and a picture that no line starts
+    let rows: [(&[u8], &[u8], [u32; 6]); 6] = [
+        (&[], b"", [0, 0, 0, 0, 0, 0]),
+        (&[128], b"next\ndownall\n", [1, 1, 0, 1, 1, 1]),
+        (
+            &[1, 2, 3],
+            b"next\nnext\nnext\ndown 3\ndown 1\n",
+            [3, 3, 0, 1, 3, 1],
+        ),
+        (&six, SIX, [6, 6, 0, 1, 6, 2]),
+        (&[128; 17], b"rest\n", [17, 17, 0, 1, 17, 17]),
+        (&[128; 2], b"next\n", [1, 1, 0, 1, 1, 0]),
+    ];
+    for (lumas, text, counts) in rows {
+        let end = run_of(alloc, lumas, text, &mut NoDiary)?;
+        assert_eq!(rt; end, Some(RunEnd::Ok(summary(counts))));
+    }
+    Ok(())
+}
+
+// Sixteen choices of which nothing is heard, so many microseconds, and one more.
+fn after_sixteen(alloc: Global, wait: &[u8]) -> Result<Option<RunEnd>, AllocError> {
+    let mut text = Vec::new(alloc);
+    for _line in 0..16 {
+        text.extend_from_slice(b"next\n")?;
+    }
+    text.extend_from_slice(wait)?;
+    text.extend_from_slice(b"next\n")?;
+    run_of(alloc, &[128; 17], text.as_slice(), &mut NoDiary)
+}
+
+#[test]
+fn choices_of_nothing_and_of_key_frames_are_counted(rt: HostRuntime) -> Result<(), Fail> {
+    let alloc = rt.alloc();
+    let full = after_sixteen(alloc, b"")?;
+    assert_eq!(rt; full, Some(RunEnd::Ok(summary([17, 16, 1, 1, 16, 0]))));
+    let again = after_sixteen(alloc, b"wait 500000\n")?;
+    assert_eq!(rt; again, Some(RunEnd::Ok(summary([17, 17, 0, 2, 17, 0]))));
     Ok(())
 }

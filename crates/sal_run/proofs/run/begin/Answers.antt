@@ -21,4 +21,4 @@ returns-in_err-open-clause-stopped g c script i =
 
 pub returns-clause-begun : goal.returns-clause-begun
 returns-clause-begun g c =
-    begun_here g.C.Codec.coding c.args.head [] g.J.Diary.gives _ _ _ _ _ c.in_ok-play.ensures.stands c.in_ok-play.ensures.downs c.in_ok-play.ensures.ups c.open.ensures.out_tells c.requires.nothing c.in_ok-open.ensures.opened
+    begun_here g.C.Codec.coding c.args.head [] g.J.Diary.gives _ _ _ _ _ c.in_ok-play.ensures.stands c.in_ok-play.ensures.counts c.in_ok-play.ensures.downs c.in_ok-play.ensures.ups c.open.ensures.out_tells c.requires.nothing c.in_ok-open.ensures.opened
