@@ -1,0 +1,3 @@
+-- Both say what the contracts promise.
+pub mod Numbers
+pub mod Texts
