@@ -11,6 +11,8 @@ use Rattle.sal_y4m.specs.Answers.{HeaderUnread}
 use Rattle.sal_script.specs.Numbered.{Numbered}
 use Rattle.sal_script.specs.Script.{script_of}
 use Rattle.sal_world.specs.declared.diary.DiaryFault.{DiaryFault}
+use Rattle.sal_run.specs.declared.end.Summary.{Summary}
+use Rattle.sal_run.specs.Summary.{summary_of}
 use Rattle.sal_run.specs.declared.end.RunEnd.{RunEnd}
 use Rattle.sal_run.specs.declared.end.RunEnd.TheVariants as run
 use Rattle.sal_run.specs.declared.end.Which.TheVariants.{Out, Journal, Pictures, Script}
@@ -18,8 +20,8 @@ use Rattle.sal_run.specs.Clip.{End, Done, BadInput, BadScript, TooMany, TooLong}
 use Rattle.sal_run.specs.Loop.{out_text, clip_run, input_end, input_out, script_end, script_out, loop_end, loop_out}
 use Rattle.sal_run.specs.Ends.{UpToNext, Cut, PartlyOrNot}
 use Rattle.sal_run.specs.Ends.{Ends as LinesEnd, RunGives as LinesGave, AtEnd as LinesAtEnd}
-use Rattle.sal_app.specs.declared.status.Stop.{Stop}
-use Rattle.sal_app.specs.declared.status.Stop.TheVariants as stop
+use Rattle.sal_app.specs.declared.stop.Stop.{Stop}
+use Rattle.sal_app.specs.declared.stop.Stop.TheVariants as stop
 use Rattle.sal_app.specs.Stops.{of_run, IsNothing, LinesGive, HeadGives}
 use Rattle.sal_app.specs.Ends.{OfRun, Told, Ends, SoFarOrNot, UpToNextOrNot, RunGives, AtEnd}
 
@@ -97,9 +99,21 @@ partly_or_not codec head lines (Some i) (Some body) (Some s) (Some o) p q (inr p
 abbrev pub none_given : DiaryFault → Bool
 none_given fault = false
 
+well_ended : {S : Type 0} (codec : Coding S) (head : Head) (lines : List Numbered) (summary : Summary) (i o : Option (List ℕ)) → LinesGave codec head lines none_given (run.Ok summary) i o → IfSome i (λ body. LinesEnd codec head lines Done body o)
+well_ended codec head lines summary None o gave = tt
+well_ended codec head lines summary (Some i) o gave = gave.0
+
+counted_of : {S : Type 0} (codec : Coding S) (head : Head) (lines : List Numbered) (summary : Summary) (i i' s o : Option (List ℕ)) → ReadsAs header_at i i' head → IfSome s (λ s. script_of s ≡ Ok lines) → LinesGave codec head lines none_given (run.Ok summary) i' o
+    → IfSome i (λ i. IfSome s (OfRun (λ head lines body. summary ≡ summary_of (clip_run codec head body lines).0.world) i))
+counted_of codec head lines summary None i' s o p q gave = tt
+counted_of codec head lines summary (Some i) None s o p q gave = absurd p
+counted_of codec head lines summary (Some i) (Some body) None o p q gave = tt
+counted_of codec head lines summary (Some i) (Some body) (Some s) o p q gave = (head, (lines, (body, p, q, gave.1)))
+
 run_gives : {S : Type 0} (codec : Coding S) (end : RunEnd) (head : Head) (lines : List Numbered) (i i' left s o : Option (List ℕ)) → ReadsAs header_at i i' head → IfSome s (λ s. script_of s ≡ Ok lines)
     → LinesGave codec head lines none_given end i' o → RunGives codec (of_run end) i left s o
-run_gives codec run.Ok head lines i i' left s o p q gave = with_lines codec Done head lines i i' s o p q gave
+run_gives codec (run.Ok summary) head lines i i' left s o p q gave =
+    (with_lines codec Done head lines i i' s o p q (well_ended codec head lines summary i' o gave), counted_of codec head lines summary i i' s o p q gave)
 run_gives codec (run.BadInput place why) head lines i i' left s o p q gave = with_lines codec (BadInput place why) head lines i i' s o p q gave
 run_gives codec (run.BadScript line) head lines i i' left s o p q gave = with_lines codec (BadScript line) head lines i i' s o p q gave
 run_gives codec run.TooMany head lines i i' left s o p q gave = with_lines codec TooMany head lines i i' s o p q gave
@@ -113,12 +127,12 @@ run_gives codec (run.WriteFault Script) head lines i i' left s o p q gave = absu
 run_gives codec run.Memory head lines i i' left s o p q gave = partly_or_not codec head lines i i' s o p q gave
 
 -- the lines were run
-pub ran : {S : Type 0} (codec : Coding S) (end : RunEnd) (r : Result (Unit {0}) Stop) (head : Head) (lines : List Numbered) (i i' left s s' o : Option (List ℕ)) → r ≡ of_run end
+pub ran : {S : Type 0} (codec : Coding S) (end : RunEnd) (r : Result Summary Stop) (head : Head) (lines : List Numbered) (i i' left s s' o : Option (List ℕ)) → r ≡ of_run end
     → HeadGives i i' head (Ok tt) → LinesGive s s' (Ok lines) → LinesGave codec head lines none_given end i' o → RunGives codec r i left s o
 ran codec end r head lines i i' left s s' o e p q gave = subst (λ x. RunGives codec x i left s o) (sym e) (run_gives codec end head lines i i' left s o p q.0 gave)
 
 run_at_end : (end : RunEnd) (left : Option (List ℕ)) → LinesAtEnd end left → AtEnd (of_run end) left
-run_at_end run.Ok left at_end = at_end
+run_at_end (run.Ok summary) left at_end = at_end
 run_at_end (run.BadInput place why) left at_end = tt
 run_at_end (run.BadScript line) left at_end = tt
 run_at_end run.TooMany left at_end = tt
@@ -127,11 +141,11 @@ run_at_end run.ReadFault left at_end = tt
 run_at_end (run.WriteFault which) left at_end = tt
 run_at_end run.Memory left at_end = tt
 
-pub ran_to_end : (end : RunEnd) (r : Result (Unit {0}) Stop) (left : Option (List ℕ)) → r ≡ of_run end → LinesAtEnd end left → AtEnd r left
+pub ran_to_end : (end : RunEnd) (r : Result Summary Stop) (left : Option (List ℕ)) → r ≡ of_run end → LinesAtEnd end left → AtEnd r left
 ran_to_end end r left e at_end = subst (λ x. AtEnd x left) (sym e) (run_at_end end left at_end)
 
 -- the script was read to its end, however the run ends
-pub script_to_end : (r : Result (Unit {0}) Stop) (lines : List Numbered) (s s' : Option (List ℕ)) → LinesGive s s' (Ok lines) → AtEnd r s'
+pub script_to_end : (r : Result Summary Stop) (lines : List Numbered) (s s' : Option (List ℕ)) → LinesGive s s' (Ok lines) → AtEnd r s'
 script_to_end (Ok x) lines s s' q = q.1
 script_to_end (Err why) lines s s' q = tt
 

@@ -7,12 +7,12 @@ use Rattle.sal_io.specs.Past.Past.{In, Out}
 use Rattle.sal_io.specs.Calls.{HasCause, Rose, IsOpened, IsCreated}
 use Rattle.sal_io.specs.declared.answers.ShelfFault.{ShelfFault}
 use Rattle.sal_io.specs.declared.answers.ShelfFault.TheVariants as shelf
-use Rattle.sal_app.specs.declared.status.Named.{Named}
-use Rattle.sal_app.specs.declared.status.Named.TheVariants.{Word}
-use Rattle.sal_app.specs.declared.status.Status.{Status}
-use Rattle.sal_app.specs.declared.status.Status.TheVariants as status
-use Rattle.sal_app.specs.declared.status.Stop.{Stop}
-use Rattle.sal_app.specs.declared.status.Stop.TheVariants as stop
+use Rattle.sal_status.specs.declared.status.Named.{Named}
+use Rattle.sal_status.specs.declared.status.Named.TheVariants.{Word}
+use Rattle.sal_status.specs.declared.status.Status.{Status}
+use Rattle.sal_status.specs.declared.status.Status.TheVariants as status
+use Rattle.sal_app.specs.declared.stop.Stop.{Stop}
+use Rattle.sal_app.specs.declared.stop.Stop.TheVariants as stop
 use Rattle.sal_codec.specs.Plain.{plain}
 use Rattle.sal_y4m.specs.declared.head.Head.{Head}
 use Rattle.sal_y4m.specs.Grammar.{IsNarrow, header_at}
@@ -24,7 +24,14 @@ use Rattle.sal_run.specs.Ends.{KeepsPromises}
 use Rattle.sal_app.specs.Stops.{IsNothing}
 use Rattle.sal_app.specs.Ends.{RunGives, AtEnd, Ends, UpToNextOrNot}
 use Rattle.sal_run.proofs.Emptied.{leaves_nothing}
-use Rattle.sal_app.specs.Top.{Files, Shut, Of, LoopAnswers, StatusOf, Unopened, IsLoop, Answers, IsComplete, IsQuiet, Promises, status_of, faults_of}
+use Rattle.sal_app.specs.Top.{Files, Shut, Of, LoopAnswers, StatusOf, Unopened, IsLoop, Answers, IsComplete, IsQuiet, Promises, IsStatusOf, faults_of}
+use Rattle.sal_app.specs.Printed.{unprinted, after_printing, Printed}
+use Rattle.sal_run.specs.declared.end.Summary.{Summary}
+use Rattle.sal_status.specs.declared.status.Shows.TheVariants.{Loop}
+use Rattle.sal_io.specs.declared.whole.Put.{Put}
+use Rattle.sal_io.specs.declared.whole.Put.TheVariants as put
+use Rattle.sal_io.specs.Calls.{PutGives}
+use Rattle.sal_status.specs.Texts.{text_of}
 
 four : {X : Type 0} (ws : List X) (a b c d : X) → 4 ≤ length ws → length ws < 5 → a ≡ get_or ws 0 a → b ≡ get_or ws 1 b → c ≡ get_or ws 2 c → d ≡ get_or ws 3 d → ws ≡ a ∷ b ∷ c ∷ d ∷ []
 four [] a b c d lo hi p q r s = absurd (omega arith)
@@ -62,7 +69,7 @@ from_zero : (a b : ℕ) → a ≡ 0 → Rose a b → Rose 0 b
 from_zero a b e r = subst (λ (n : ℕ). Rose n b) e r
 
 -- the status of a run that ended
-pub answered : (input script output : List ℕ) (holds : List ℕ → Option (List ℕ)) (before after : List Past) (faults faults' : ℕ) (end : Result (Unit {0}) Stop) (s : Status) (f : Files)
+pub answered : (input script output : List ℕ) (holds : List ℕ → Option (List ℕ)) (before after : List Past) (faults faults' : ℕ) (end : Result Summary Stop) (s : Status) (f : Files)
     → Shut input script output holds before after f → StatusOf end s → RunGives plain end (holds input) f.input_left (holds script) f.held → AtEnd end f.input_left → AtEnd end f.script_left
     → HasCause (Err stop.InputFault) 0 f.input_faults end → HasCause (Err stop.ScriptFault) 0 f.script_faults end → HasCause (Err stop.WriteFault) 0 f.out_faults end
     → LoopAnswers input script output holds before after faults faults' s
@@ -143,7 +150,7 @@ cause_zero : {A : Type 0} (fault : A) (a b : ℕ) (answer : A) → a ≡ 0 → H
 cause_zero fault a b answer e c = subst (λ (n : ℕ). HasCause fault n b answer) e c
 
 -- all three were opened, the run ended, and all were shut
-pub run_answered : (input script output : List ℕ) (holds holds1 : List ℕ → Option (List ℕ)) (p0 p1 p2 p3 p4 p5 p6 : List Past) (f0 f6 : ℕ) (end : Result (Unit {0}) Stop) (s : Status)
+pub run_answered : (input script output : List ℕ) (holds holds1 : List ℕ → Option (List ℕ)) (p0 p1 p2 p3 p4 p5 p6 : List Past) (f0 f6 : ℕ) (end : Result Summary Stop) (s : Status)
     (name name' sname sname' oname oname' : List ℕ) (had had' left left' shad shad' sleft sleft' held held' : Option (List ℕ)) (n n' m m' k k' : ℕ)
     → StatusOf end s → IsOpened input (holds input) name had left n → IsOpened script (holds1 script) sname shad sleft m → IsCreated output oname held k → holds1 ≡ holds
     → p1 ≡ p0 → p2 ≡ p1 → p3 ≡ p2 → p4 ≡ p3 ++ In name' had' left' n' ∷ [] → p5 ≡ p4 ++ In sname' shad' sleft' m' ∷ [] → p6 ≡ p5 ++ Out oname' held' k' ∷ []
@@ -201,15 +208,15 @@ shut_news : (input script output : List ℕ) (holds : List ℕ → Option (List 
 shut_news input script output holds before after f shut = shut ∙ three before _ _ _
 
 abbrev pub Finds : List ℕ → List ℕ → Status → Type 0
-Finds i s st = (st ≡ status_of (loop_end plain i s)) ⊎ (st ≡ status.Memory)
+Finds i s st = IsStatusOf (loop_end plain i s) st ⊎ (st ≡ status.Memory)
 
-ended_finds : (i s : List ℕ) (input script out : Option (List ℕ)) (end : End) (st : Status) → input ≡ Some i → script ≡ Some s → Ends plain end input script out → st ≡ status_of end → Finds i s st
-ended_finds i s input script out end st p q so e = inl (e ∙ ap status_of (sym (told_end i s input script out end p q so)))
+ended_finds : (i s : List ℕ) (input script out : Option (List ℕ)) (end : End) (st : Status) → input ≡ Some i → script ≡ Some s → Ends plain end input script out → IsStatusOf end st → Finds i s st
+ended_finds i s input script out end st p q so e = inl (subst (λ (x : End). IsStatusOf x st) (sym (told_end i s input script out end p q so)) e)
 
 complete_loop : (input script output : List ℕ) (holds : List ℕ → Option (List ℕ)) (before after : List Past) (faults faults' : ℕ) (i s : List ℕ) (st : Status) → holds input ≡ Some i → holds script ≡ Some s
     → IsQuiet before after faults faults' → LoopAnswers input script output holds before after faults faults' st → Finds i s st
-complete_loop input script output holds before after faults faults' i s status.Ok p q quiet a =
-    ended_finds i s (holds input) (holds script) a.0.held Done status.Ok p q a.2 refl
+complete_loop input script output holds before after faults faults' i s (status.Ok (Loop summary)) p q quiet a =
+    ended_finds i s (holds input) (holds script) a.0.held Done (status.Ok (Loop summary)) p q a.2.0 (summary, refl)
 complete_loop input script output holds before after faults faults' i s status.Usage p q quiet a = absurd a
 complete_loop input script output holds before after faults faults' i s (status.BadInput name place why) p q quiet a =
     ended_finds i s (holds input) (holds script) a.1.0.held (BadInput place why) (status.BadInput name place why) p q a.1.2 (ap (λ (n : Named). status.BadInput n place why) a.0)
@@ -235,11 +242,23 @@ complete_loop input script output holds before after faults faults' i s (status.
 complete_loop input script output holds before after faults faults' i s (status.OpenFault name) p q quiet a = absurd (quiet.shelf_quiet a.0)
 complete_loop input script output holds before after faults faults' i s status.Memory p q quiet a = inr refl
 
-pub complete : (words : List (List ℕ)) (holds : List ℕ → Option (List ℕ)) (before after : List Past) (faults faults' : ℕ) (st : Status) → Answers words holds before after faults faults' st → IsComplete words holds before after faults faults' st
-complete words holds before after faults faults' st (inl a) i s said quiet =
+served : (words : List (List ℕ)) (holds : List ℕ → Option (List ℕ)) (before after : List Past) (faults faults' : ℕ) (i s : List ℕ) (st : Status) → Answers words holds before after faults faults' st
+    → IsLoop words (λ input script output. (holds input ≡ Some i) × (holds script ≡ Some s)) → IsQuiet before after faults faults' → Finds i s st
+served words holds before after faults faults' i s st (inl a) said quiet =
     words_both words (λ input script output. LoopAnswers input script output holds before after faults faults' st) (λ input script output. (holds input ≡ Some i) × (holds script ≡ Some s)) (Finds i s st) a said
     (λ input script output answer known. complete_loop input script output holds before after faults faults' i s st known.0 known.1 quiet answer)
-complete words holds before after faults faults' st (inr a) i s said quiet = absurd (a.0 (words_any words _ said))
+served words holds before after faults faults' i s st (inr a) said quiet = absurd (a.0 (words_any words _ said))
+
+-- ---- printing
+
+-- the text was printed, or a front of it
+pub put_printed : (words : List (List ℕ)) (s answer : Status) (done : Put) (old new : Option (List ℕ)) (faults faults' : ℕ) → answer ≡ after_printing done s → PutGives old new done (text_of words s) → HasCause put.Failed faults faults' done → Printed words s old new faults faults' answer
+put_printed words s answer put.Done old new faults faults' e gives cause = inl (e, gives)
+put_printed words s answer put.Failed old new faults faults' e gives cause = inr (e, cause.rose refl, gives)
+
+pub complete : (words : List (List ℕ)) (holds : List ℕ → Option (List ℕ)) (before after : List Past) (faults faults' : ℕ) (old new : Option (List ℕ)) (screen screen' : ℕ) (s answer : Status) → Answers words holds before after faults faults' s → Printed words s old new screen screen' answer → IsComplete words holds before after faults faults' screen screen' answer
+complete words holds before after faults faults' old new screen screen' s answer a (inl whole) i o said quiet still = subst (λ (x : Status). Finds i o x) (sym whole.0) (served words holds before after faults faults' i o s a said quiet)
+complete words holds before after faults faults' old new screen screen' s answer a (inr cut) i o said quiet still = absurd (still cut.1)
 
 -- ---- the promises of both ends
 

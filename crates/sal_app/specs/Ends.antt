@@ -1,5 +1,6 @@
 -- What a run of `loop` gives, by how it ends: of the bytes that IN and SCRIPT had, and of those that OUT then holds.
 use Rattle.std.specs.Prelude.{◌≡◌, ◌⊎◌, ℕ, List, [], Option, Some, IfSome, Result, Ok, Err}
+use Rattle.sal_run.specs.declared.end.Summary.{Summary}
 use Rattle.sal_codec.specs.Coding.{Coding}
 use Rattle.sal_y4m.specs.declared.head.Head.{Head}
 use Rattle.sal_y4m.specs.Grammar.{header_at}
@@ -7,10 +8,11 @@ use Rattle.sal_y4m.specs.Answers.{HeaderUnread}
 use Rattle.sal_script.specs.Numbered.{Numbered}
 use Rattle.sal_script.specs.Script.{script_of}
 use Rattle.sal_run.specs.Clip.{End, Done, BadInput, BadScript, TooMany, TooLong}
-use Rattle.sal_run.specs.Loop.{loop_end, loop_out}
+use Rattle.sal_run.specs.Summary.{summary_of}
+use Rattle.sal_run.specs.Loop.{clip_run, loop_end, loop_out}
 use Rattle.sal_run.specs.Ends.{Partly, UpToNext, Cut}
-use Rattle.sal_app.specs.declared.status.Stop.{Stop}
-use Rattle.sal_app.specs.declared.status.Stop.TheVariants as stop
+use Rattle.sal_app.specs.declared.stop.Stop.{Stop}
+use Rattle.sal_app.specs.declared.stop.Stop.TheVariants as stop
 use Rattle.sal_app.specs.Stops.{IsNothing}
 
 -- IN begins with a header, SCRIPT says lines, and this holds of the header, the lines and the bytes after the header
@@ -27,6 +29,11 @@ module _ {S : Type 0} (codec : Coding S) where
   abbrev pub Ends : End → Option (List ℕ) → Option (List ℕ) → Option (List ℕ) → Type 0
   Ends end input script out = IfSome input (λ i. IfSome script (λ s. (loop_end codec i s ≡ end) × IfSome out (λ o. o ≡ loop_out codec i s)))
 
+  -- the run ended well, and this is what it counted
+  abbrev pub EndsWell : Summary → Option (List ℕ) → Option (List ℕ) → Option (List ℕ) → Type 0
+  EndsWell summary input script out =
+      Ends Done input script out × IfSome input (λ i. IfSome script (OfRun (λ head lines body. summary ≡ summary_of (clip_run codec head body lines).0.world) i))
+
   -- OUT holds the header and the pictures shown by the events before, or nothing
   abbrev pub SoFarOrNot : List ℕ → List ℕ → List ℕ → Type 0
   SoFarOrNot i s o = (o ≡ []) ⊎ OfRun (λ head lines body. Partly codec head lines body o) i s
@@ -41,8 +48,8 @@ module _ {S : Type 0} (codec : Coding S) where
   CutOff i s o = OfRun (λ head lines body. Cut codec head lines body o) i s
 
   -- what a run gives, of what IN had left before and after
-  abbrev pub RunGives : Result (Unit {0}) Stop → Option (List ℕ) → Option (List ℕ) → Option (List ℕ) → Option (List ℕ) → Type 0
-  RunGives (Ok x) i left s o = Ends Done i s o
+  abbrev pub RunGives : Result Summary Stop → Option (List ℕ) → Option (List ℕ) → Option (List ℕ) → Option (List ℕ) → Type 0
+  RunGives (Ok summary) i left s o = EndsWell summary i s o
   RunGives (Err (stop.BadInput place why)) i left s o = Ends (BadInput place why) i s o
   RunGives (Err (stop.BadScript line)) i left s o = Ends (BadScript line) i s o
   RunGives (Err stop.TooMany) i left s o = Ends TooMany i s o
@@ -53,6 +60,6 @@ module _ {S : Type 0} (codec : Coding S) where
   RunGives (Err stop.Memory) i left s o = Told i s o SoFarOrNot
 
 -- what was read is read to its end where all went well
-abbrev pub AtEnd : Result (Unit {0}) Stop → Option (List ℕ) → Type 0
+abbrev pub AtEnd : Result Summary Stop → Option (List ℕ) → Type 0
 AtEnd (Ok x) left = IsNothing left
 AtEnd (Err why) left = Unit {0}

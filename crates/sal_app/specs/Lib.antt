@@ -1,4 +1,4 @@
-pub mod Numbers
 pub mod Stops
 pub mod Ends
 pub mod Top
+pub mod Printed

@@ -11,10 +11,11 @@ use Rattle.sal_script.specs.declared.fault.ScriptFault.{ScriptFault}
 use Rattle.sal_script.specs.declared.fault.ScriptFault.TheVariants as script
 use Rattle.sal_script.specs.Numbered.{Numbered}
 use Rattle.sal_script.specs.Script.{script_of}
+use Rattle.sal_run.specs.declared.end.Summary.{Summary}
 use Rattle.sal_run.specs.declared.end.RunEnd.{RunEnd}
 use Rattle.sal_run.specs.declared.end.RunEnd.TheVariants as run
-use Rattle.sal_app.specs.declared.status.Stop.{Stop}
-use Rattle.sal_app.specs.declared.status.Stop.TheVariants as stop
+use Rattle.sal_app.specs.declared.stop.Stop.{Stop}
+use Rattle.sal_app.specs.declared.stop.Stop.TheVariants as stop
 
 -- why a run stops at a fault of its script, or of its input
 abbrev pub of_script : ScriptFault → Stop
@@ -28,8 +29,8 @@ of_input y4m.ReadFault = stop.InputFault
 of_input y4m.Memory = stop.Memory
 
 -- how a run over lines ends, of which nothing is written down
-abbrev pub of_run : RunEnd → Result (Unit {0}) Stop
-of_run run.Ok = Ok tt
+abbrev pub of_run : RunEnd → Result Summary Stop
+of_run (run.Ok summary) = Ok summary
 of_run (run.BadInput place why) = Err (stop.BadInput place why)
 of_run (run.BadScript line) = Err (stop.BadScript line)
 of_run run.ReadFault = Err stop.InputFault

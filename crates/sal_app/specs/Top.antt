@@ -4,12 +4,14 @@ use Rattle.std.specs.List.{AllByRecursion}
 use Rattle.sal_io.specs.Past.{Past}
 use Rattle.sal_io.specs.Past.Past.{In, Out}
 use Rattle.sal_io.specs.Calls.{Rose}
-use Rattle.sal_app.specs.declared.status.Named.{Named}
-use Rattle.sal_app.specs.declared.status.Named.TheVariants.{Word}
-use Rattle.sal_app.specs.declared.status.Status.{Status}
-use Rattle.sal_app.specs.declared.status.Status.TheVariants as status
-use Rattle.sal_app.specs.declared.status.Stop.{Stop}
-use Rattle.sal_app.specs.declared.status.Stop.TheVariants as stop
+use Rattle.sal_status.specs.declared.status.Named.{Named}
+use Rattle.sal_status.specs.declared.status.Named.TheVariants.{Word}
+use Rattle.sal_status.specs.declared.status.Status.{Status}
+use Rattle.sal_status.specs.declared.status.Status.TheVariants as status
+use Rattle.sal_status.specs.declared.status.Shows.TheVariants.{Loop}
+use Rattle.sal_run.specs.declared.end.Summary.{Summary}
+use Rattle.sal_app.specs.declared.stop.Stop.{Stop}
+use Rattle.sal_app.specs.declared.stop.Stop.TheVariants as stop
 use Rattle.sal_io.specs.declared.answers.ShelfFault.{ShelfFault}
 use Rattle.sal_io.specs.declared.answers.ShelfFault.TheVariants as shelf
 use Rattle.sal_codec.specs.Plain.{plain}
@@ -21,7 +23,7 @@ use Rattle.sal_run.specs.Clip.{End, Done, BadInput, BadScript, TooMany, TooLong}
 use Rattle.sal_run.specs.Loop.{loop_end}
 use Rattle.sal_run.specs.Ends.{KeepsPromises, LeavesNothing}
 use Rattle.sal_app.specs.Stops.{IsNothing}
-use Rattle.sal_app.specs.Ends.{Told, Ends, SoFarOrNot, UpToNextOrNot, CutOff}
+use Rattle.sal_app.specs.Ends.{Told, Ends, EndsWell, SoFarOrNot, UpToNextOrNot, CutOff}
 
 -- what is known of IN, SCRIPT and OUT as they were shut: what the sources had left, what the sink holds, and the counts
 -- of faults
@@ -67,8 +69,8 @@ module _ (input script output : List ℕ) (holds : List ℕ → Option (List ℕ
   -- each status with its cause; the counts of the shelf were these before and after
   abbrev pub LoopAnswers : ℕ → ℕ → Status → Type 0
   -- all lines were run, and IN and SCRIPT were read to their ends
-  LoopAnswers faults faults' status.Ok =
-      (f : Files) × Shut f × EndedWith f Done × IsNothing f.input_left × IsNothing f.script_left
+  LoopAnswers faults faults' (status.Ok (Loop summary)) =
+      (f : Files) × Shut f × EndsWell plain summary (holds input) (holds script) f.held × IsNothing f.input_left × IsNothing f.script_left
   LoopAnswers faults faults' status.Usage = ⊥
   LoopAnswers faults faults' (status.BadInput name place why) = (name ≡ Word 1) × Ended (BadInput place why)
   LoopAnswers faults faults' (status.BadScript line) = Ended (BadScript line)
@@ -85,8 +87,8 @@ module _ (input script output : List ℕ) (holds : List ℕ → Option (List ℕ
   LoopAnswers faults faults' status.Memory = ShutNone ⊎ (ShutInput ⊎ (ShutBoth ⊎ ((f : Files) × Shut f × Of f (SoFarOrNot plain))))
 
 -- what the end of a run is as a status
-abbrev pub StatusOf : Result (Unit {0}) Stop → Status → Type 0
-StatusOf (Ok x) s = s ≡ status.Ok
+abbrev pub StatusOf : Result Summary Stop → Status → Type 0
+StatusOf (Ok summary) s = s ≡ status.Ok (Loop summary)
 StatusOf (Err (stop.BadInput place why)) s = s ≡ status.BadInput (Word 1) place why
 StatusOf (Err (stop.BadScript line)) s = s ≡ status.BadScript line
 StatusOf (Err stop.InputFault) s = s ≡ status.ReadFault (Word 1)
@@ -114,12 +116,12 @@ Answers words holds before after faults faults' s =
     ⊎ ((IsLoop words (λ input script output. Unit {0}) → ⊥) × (s ≡ status.Usage) × (after ≡ before) × (faults' ≡ faults))
 
 -- how a run ends as a status
-abbrev pub status_of : End → Status
-status_of Done = status.Ok
-status_of (BadInput place why) = status.BadInput (Word 1) place why
-status_of (BadScript line) = status.BadScript line
-status_of TooLong = status.TooLong
-status_of TooMany = status.TooMany
+abbrev pub IsStatusOf : End → Status → Type 0
+IsStatusOf Done s = (summary : Summary) × (s ≡ status.Ok (Loop summary))
+IsStatusOf (BadInput place why) s = s ≡ status.BadInput (Word 1) place why
+IsStatusOf (BadScript line) s = s ≡ status.BadScript line
+IsStatusOf TooLong s = s ≡ status.TooLong
+IsStatusOf TooMany s = s ≡ status.TooMany
 
 abbrev pub faults_of : Past → ℕ
 faults_of (In name had left faults) = faults
@@ -132,10 +134,10 @@ pub record IsQuiet (before after : List Past) (faults faults' : ℕ) : Type 0 wh
 
 -- completeness: where the words are `loop` and three names, the shelf tells what it has under the first two, and no
 -- count rose, the answer is how the run ends, or Memory
-abbrev pub IsComplete : List (List ℕ) → (List ℕ → Option (List ℕ)) → List Past → List Past → ℕ → ℕ → Status → Type 0
-IsComplete words holds before after faults faults' s =
-    (i o : List ℕ) → IsLoop words (λ input script output. (holds input ≡ Some i) × (holds script ≡ Some o)) → IsQuiet before after faults faults'
-    → (s ≡ status_of (loop_end plain i o)) ⊎ (s ≡ status.Memory)
+abbrev pub IsComplete : List (List ℕ) → (List ℕ → Option (List ℕ)) → List Past → List Past → ℕ → ℕ → ℕ → ℕ → Status → Type 0
+IsComplete words holds before after faults faults' screen screen' s =
+    (i o : List ℕ) → IsLoop words (λ input script output. (holds input ≡ Some i) × (holds script ≡ Some o)) → IsQuiet before after faults faults' → (Rose screen screen' → ⊥)
+    → IsStatusOf (loop_end plain i o) s ⊎ (s ≡ status.Memory)
 
 -- where the words are `loop` and three names and the shelf tells what it has under the first two: the run of these lines over
 -- the pictures after this header keeps all promises of both ends, after any of its events, and leaves nothing that is ready

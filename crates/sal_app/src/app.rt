@@ -1,13 +1,15 @@
 //! The top call: words, files, and the status.
 
-ghost use Rattle.std.specs.Prelude.{◌≡◌, ◌≤◌, ◌↔◌, IsTrue, map, codes, string_bytes};
+ghost use Rattle.std.specs.Prelude.{is_some, ◌≡◌, ◌≤◌, ◌↔◌, IsTrue, map, codes, string_bytes};
 ghost use Rattle.sal_app.specs.Top.{LoopAnswers, Answers, IsComplete, Promises, StatusOf, Unopened};
+ghost use Rattle.sal_app.specs.Printed.{after_printing, Serves};
 
 use crate::looping::run_loop;
-use crate::status::{Named, Status, Stop};
+use crate::stop::Stop;
 use sal_codec::Plain;
-use sal_io::{Host, Shelf, ShelfFault};
-use sal_run::every_run_keeps_its_promises;
+use sal_io::{Host, Put, Shelf, ShelfFault, Sink};
+use sal_run::{Summary, every_run_keeps_its_promises};
+use sal_status::{Named, Shows, Status, show};
 use sal_y4m::{Reader, Writer};
 use std::alloc::Global;
 use std::sync::Wait;
@@ -31,11 +33,11 @@ fn unopened(fault: ShelfFault, name: Named) -> Status
 }
 
 // The status of a run.
-fn status_of(end: Result<(), Stop>) -> Status
+fn status_of(end: Result<Summary, Stop>) -> Status
     ensures { StatusOf end result }
 {
     match end {
-        Ok(()) => Status::Ok,
+        Ok(summary) => Status::Ok(Shows::Loop(summary)),
         Err(Stop::BadInput(place, why)) => Status::BadInput(INPUT, place, why),
         Err(Stop::BadScript(line)) => Status::BadScript(line),
         Err(Stop::InputFault) => Status::ReadFault(INPUT),
@@ -95,15 +97,13 @@ fn is_loop(word: &str) -> bool
     word == "loop"
 }
 
-/// Serves `loop IN SCRIPT OUT`, and always returns. The words are those after the program's name. All that was opened
-/// is shut, in the order of opening, before the call answers.
-pub fn salsify_alone<F: Shelf>(alloc: Global, words: &[String], host: &mut Host<F>) -> Status
-    ensures answers { Answers (map string_bytes words.now) (F.holds host.old.files) (F.pasts host.old.files) (F.pasts host.new.files) (F.faults host.old.files) (F.faults host.new.files) result }
-    ensures complete { IsComplete (map string_bytes words.now) (F.holds host.old.files) (F.pasts host.old.files) (F.pasts host.new.files) (F.faults host.old.files) (F.faults host.new.files) result }
-    ensures promises { Promises (map string_bytes words.now) (F.holds host.old.files) }
-    ensures later { F.faults host.old.files ≤ F.faults host.new.files }
-    ensures holds { F.holds host.new.files ≡ F.holds host.old.files }
-    ensures spare { F.spare host.new.files ≡ F.spare host.old.files }
+// Serves the words, and prints nothing.
+fn serve<F: Shelf>(alloc: Global, words: &[String], files: &mut F) -> Status
+    ensures answers { Answers (map string_bytes words.now) (F.holds files.old) (F.pasts files.old) (F.pasts files.new) (F.faults files.old) (F.faults files.new) result }
+    ensures promises { Promises (map string_bytes words.now) (F.holds files.old) }
+    ensures later { F.faults files.old ≤ F.faults files.new }
+    ensures holds { F.holds files.new ≡ F.holds files.old }
+    ensures spare { F.spare files.new ≡ F.spare files.old }
 {
     every_run_keeps_its_promises::<Plain>();
     let [command, input, script, output] = words else {
@@ -118,23 +118,59 @@ pub fn salsify_alone<F: Shelf>(alloc: Global, words: &[String], host: &mut Host<
         input.as_str(),
         script.as_str(),
         output.as_str(),
-        &mut host.files,
+        files,
     )
 }
 
-/// Serves what `salsify_alone` serves, with threads at hand.
-pub fn salsify<R: Threads + Wait + Sync, F: Shelf>(
-    _rt: &R,
+// The status after its text was printed, or wasn't.
+fn printed(status: Status, put: Put) -> Status
+    ensures { result ≡ after_printing put status }
+{
+    match (status, put) {
+        (Status::Ok(_), Put::Failed) => Status::WriteFault(Named::Screen),
+        (status, _) => status,
+    }
+}
+
+/// Serves `loop IN SCRIPT OUT`, prints the text of the status, and always returns. The words are those after the program's name. All
+/// that was opened is shut, in the order of opening, before the call answers. Where the text can't be printed, Ok becomes
+/// WriteFault of the screen, and no other status changes.
+pub fn salsify_alone<F: Shelf, K: Sink>(
     alloc: Global,
     words: &[String],
-    host: &mut Host<F>,
+    host: &mut Host<F, K>,
 ) -> Status
-    ensures answers { Answers (map string_bytes words.now) (F.holds host.old.files) (F.pasts host.old.files) (F.pasts host.new.files) (F.faults host.old.files) (F.faults host.new.files) result }
-    ensures complete { IsComplete (map string_bytes words.now) (F.holds host.old.files) (F.pasts host.old.files) (F.pasts host.new.files) (F.faults host.old.files) (F.faults host.new.files) result }
+    ensures serves { Serves (map string_bytes words.now) (F.holds host.old.files) (F.pasts host.old.files) (F.pasts host.new.files) (F.faults host.old.files) (F.faults host.new.files) (K.held host.old.screen) (K.held host.new.screen) (K.faults host.old.screen) (K.faults host.new.screen) result }
+    ensures complete { IsComplete (map string_bytes words.now) (F.holds host.old.files) (F.pasts host.old.files) (F.pasts host.new.files) (F.faults host.old.files) (F.faults host.new.files) (K.faults host.old.screen) (K.faults host.new.screen) result }
     ensures promises { Promises (map string_bytes words.now) (F.holds host.old.files) }
     ensures later { F.faults host.old.files ≤ F.faults host.new.files }
     ensures holds { F.holds host.new.files ≡ F.holds host.old.files }
     ensures spare { F.spare host.new.files ≡ F.spare host.old.files }
+    ensures screen_later { K.faults host.old.screen ≤ K.faults host.new.screen }
+    ensures screen_name { K.name host.new.screen ≡ K.name host.old.screen }
+    ensures screen_tells { is_some (K.held host.new.screen) ≡ is_some (K.held host.old.screen) }
+{
+    let status = serve(alloc, words, &mut host.files);
+    let put = show(&mut host.screen, words, status);
+    printed(status, put)
+}
+
+/// Serves what `salsify_alone` serves, with threads at hand.
+pub fn salsify<R: Threads + Wait + Sync, F: Shelf, K: Sink>(
+    _rt: &R,
+    alloc: Global,
+    words: &[String],
+    host: &mut Host<F, K>,
+) -> Status
+    ensures serves { Serves (map string_bytes words.now) (F.holds host.old.files) (F.pasts host.old.files) (F.pasts host.new.files) (F.faults host.old.files) (F.faults host.new.files) (K.held host.old.screen) (K.held host.new.screen) (K.faults host.old.screen) (K.faults host.new.screen) result }
+    ensures complete { IsComplete (map string_bytes words.now) (F.holds host.old.files) (F.pasts host.old.files) (F.pasts host.new.files) (F.faults host.old.files) (F.faults host.new.files) (K.faults host.old.screen) (K.faults host.new.screen) result }
+    ensures promises { Promises (map string_bytes words.now) (F.holds host.old.files) }
+    ensures later { F.faults host.old.files ≤ F.faults host.new.files }
+    ensures holds { F.holds host.new.files ≡ F.holds host.old.files }
+    ensures spare { F.spare host.new.files ≡ F.spare host.old.files }
+    ensures screen_later { K.faults host.old.screen ≤ K.faults host.new.screen }
+    ensures screen_name { K.name host.new.screen ≡ K.name host.old.screen }
+    ensures screen_tells { is_some (K.held host.new.screen) ≡ is_some (K.held host.old.screen) }
 {
     salsify_alone(alloc, words, host)
 }

@@ -3,11 +3,12 @@
 
 mod app;
 mod looping;
-mod status;
+mod stop;
 
 pub use app::{salsify, salsify_alone};
 pub use looping::run_loop;
-pub use status::{Named, Status, Stop};
+pub use sal_status::{Named, Shows, Status};
+pub use stop::Stop;
 
 #[cfg(test)]
 mod tests;

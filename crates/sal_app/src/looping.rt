@@ -6,10 +6,10 @@ ghost use Rattle.sal_y4m.specs.Grammar.{IsNarrow};
 ghost use Rattle.sal_app.specs.Stops.{of_script, of_input, of_run, IsNothing, LinesGive, HeadGives};
 ghost use Rattle.sal_app.specs.Ends.{RunGives, AtEnd};
 
-use crate::status::Stop;
+use crate::stop::Stop;
 use sal_codec::Codec;
 use sal_io::{Sink, Source};
-use sal_run::{RunEnd, run_alone};
+use sal_run::{RunEnd, Summary, run_alone};
 use sal_script::{Script, ScriptFault, read_script};
 use sal_world::NoDiary;
 use sal_y4m::{Reader, Writer, Y4mFault};
@@ -38,11 +38,11 @@ fn input_stop(fault: Y4mFault) -> Stop
 }
 
 // How a run over lines ends, of which nothing is written down.
-fn run_stop(end: RunEnd) -> Result<(), Stop>
+fn run_stop(end: RunEnd) -> Result<Summary, Stop>
     ensures { result ≡ of_run end }
 {
     match end {
-        RunEnd::Ok => Ok(()),
+        RunEnd::Ok(summary) => Ok(summary),
         RunEnd::BadInput(place, why) => Err(Stop::BadInput(place, why)),
         RunEnd::BadScript(line) => Err(Stop::BadScript(line)),
         RunEnd::ReadFault => Err(Stop::InputFault),
@@ -97,7 +97,7 @@ pub fn run_loop<C: Codec, S: Source, T: Source, K: Sink>(
     pictures: &mut Reader<S>,
     script: &mut T,
     out: &mut Writer<K>,
-) -> Result<(), Stop>
+) -> Result<Summary, Stop>
     requires fresh { pictures.old.kept ≡ None }
     requires open { out.old.failed ≡ false }
     requires nothing { IsNothing (K.held out.old.sink) }

@@ -95,19 +95,17 @@ fn shelf_in_memory(rt: HostRuntime) -> Result<(), Fail> {
     let mut files = Vec::new(alloc);
     files.push(file(alloc, b"clip", &[2])?)?;
     files.push(file(alloc, b"out", &[3])?)?;
-    let mut host = Host {
-        files: MemShelf::new(alloc, files, Vec::from_slice(alloc, &[3])?),
-    };
-    let Ok(mut input) = opened(&mut host.files, alloc, "clip") else {
+    let mut shelf = MemShelf::new(alloc, files, Vec::from_slice(alloc, &[3])?);
+    let Ok(mut input) = opened(&mut shelf, alloc, "clip") else {
         panic!(rt; "not opened");
     };
-    let Ok(mut output) = created(&mut host.files, alloc, "out") else {
+    let Ok(mut output) = created(&mut shelf, alloc, "out") else {
         panic!(rt; "not created");
     };
-    assert!(rt; opened(&mut host.files, alloc, "clip").is_err());
-    assert_eq!(rt; host.files.faults(), 1);
-    assert!(rt; opened(&mut host.files, alloc, "absent").is_err());
-    assert_eq!(rt; host.files.faults(), 2);
+    assert!(rt; opened(&mut shelf, alloc, "clip").is_err());
+    assert_eq!(rt; shelf.faults(), 1);
+    assert!(rt; opened(&mut shelf, alloc, "absent").is_err());
+    assert_eq!(rt; shelf.faults(), 2);
     let mut word = [0u8; 4];
     assert_eq!(rt; took(&mut input, &mut word), Took::Got(4));
     assert_eq!(rt; word, *b"clip");
@@ -118,9 +116,9 @@ fn shelf_in_memory(rt: HostRuntime) -> Result<(), Fail> {
         Put::Failed
     );
     assert_eq!(rt; (input.faults(), output.faults()), (1, 1));
-    host.files.shut_in(input);
-    host.files.shut_out(output);
-    match host.files.shut() {
+    shelf.shut_in(input);
+    shelf.shut_out(output);
+    match shelf.shut() {
         [Shut::Source(_), Shut::Sink(sink)] => {
             assert_eq!(rt; sink.name(), b"out".as_slice());
             assert_eq!(rt; sink.bytes(), b"abc".as_slice());
