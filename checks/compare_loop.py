@@ -1,5 +1,5 @@
 #!/usr/bin/env python3
-"""Compares the built program's `loop` with an independent program, byte for byte: status and OUT, on random clips and scripts.
+"""Compares the built program's `loop` with an independent program, byte for byte: status, OUT and what is printed, on random clips and scripts.
 
 A case is named by its seed, from which clip and script are made: sizes, losses both ways, repeats, any order, late reports, waits short and
 past half a second, windows that fill; a few clips are cut or have bad headers, and a few scripts ask for too much. `--seed N --count 1` runs
@@ -26,6 +26,8 @@ PROGRAM = peer.ROOT / "crates" / "salsify" / "out" / "salsify"
 LAUNCHER = peer.ROOT / "salsify"
 # What stands for a status where a program doesn't end in time.
 NO_END = "no end"
+# The status of an input that isn't in the grammar.
+BAD_INPUT = 3
 # From how many cases on the share of runs with status 0 is tested.
 ENOUGH = 40
 # Bytes of a datagram's data, and how long a sender waits for acknowledgements until nothing counts as in flight, in microseconds.
@@ -350,14 +352,16 @@ def named_cases():
 
 
 def outcome(words, folder, names, limit):
-    """Status and OUT of a program over the files in a folder; the status is a word where it doesn't end in time."""
+    """Status, OUT and what was printed of a program over the files in a folder; the status is a word where it doesn't end in time. Where the
+    input isn't in the grammar what is printed doesn't count: the narrow grammar that is read has one place and reason for all faults."""
     (folder / names[2]).unlink(missing_ok=True)
     try:
-        status = subprocess.run([*words, *names], cwd=folder, stdin=subprocess.DEVNULL, capture_output=True, timeout=limit).returncode
+        ended = subprocess.run([*words, *names], cwd=folder, stdin=subprocess.DEVNULL, capture_output=True, timeout=limit)
+        status, printed = ended.returncode, ended.stdout
     except subprocess.TimeoutExpired:
-        status = NO_END
+        status, printed = NO_END, b""
     out = folder / names[2]
-    return status, out.read_bytes() if out.exists() else None
+    return status, out.read_bytes() if out.exists() else None, b"" if status == BAD_INPUT else printed.replace(names[2].encode(), b"OUT")
 
 
 def happenings(journal):
@@ -396,6 +400,8 @@ def difference(ours, theirs, case):
         else:
             at = next((i for i, (a, b) in enumerate(zip(ours[1], theirs[1])) if a != b), min(len(ours[1]), len(theirs[1])))
             words.append(f"OUT differs at byte {at} ({len(ours[1])} bytes, and theirs {len(theirs[1])})")
+    if ours[2] != theirs[2]:
+        words.append(f"printed is {ours[2]!r}, and theirs {theirs[2]!r}")
     return f"{case.name} ({case.size}): " + "; ".join(words)
 
 
