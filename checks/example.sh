@@ -67,6 +67,15 @@ printf 'rest\n' >script
 { printf 'YUV4MPEG2 W32 H24 F30:1 Ip A0:0 C420jpeg\n'; tail -c +19 "$clip"; } >wanted.y4m
 shows "the whole example clip" "$clip" script 6 6 0 1 6 6
 
+# Wide pictures, high ones and many of them are all shown.
+grey_clip() { printf 'YUV4MPEG2 W%d H%d\n' "$1" "$2"; for ((n = 0; n < $4; n++)); do printf 'FRAME\n'; head -c "$3" /dev/zero; done; }
+for sides in "641 9 8979 3 24" "1280 8 15360 3 39" "2 720 2160 3 6" "16 16 384 130 130"; do
+    read -r width height samples count datagrams <<<"$sides"
+    grey_clip "$width" "$height" "$samples" "$count" >in.y4m
+    { printf 'YUV4MPEG2 W%d H%d F30:1 Ip A0:0 C420jpeg\n' "$width" "$height"; tail -n +2 in.y4m; } >wanted.y4m
+    shows "$count pictures of $width by $height" in.y4m script "$count" "$count" 0 1 "$datagrams" "$count"
+done
+
 # Each status but 0, which the runs above ended with, and 1, which is the launcher's own.
 usage="usage: salsify loop, send, receive, check or generate"
 ends "no words" 2 "$usage"
