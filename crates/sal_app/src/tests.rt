@@ -251,6 +251,46 @@ fn what_is_shown_of_a_clip(rt: HostRuntime) -> Result<(), Fail> {
     Ok(())
 }
 
+// A clip of pictures of these sides, each of one value.
+fn grey(
+    alloc: Global,
+    header: &[u8],
+    samples: usize,
+    pictures: u32,
+) -> Result<Vec<u8>, AllocError> {
+    let mut bytes = Vec::from_slice(alloc, header)?;
+    let picture = vec![in alloc; 128u8; samples]?;
+    for _picture in 0..pictures {
+        bytes.extend_from_slice(b"FRAME\n")?;
+        bytes.extend_from_slice(picture.as_slice())?;
+    }
+    Ok(bytes)
+}
+
+// Where there is memory, wide and high pictures are shown, and long runs end well.
+#[test]
+fn all_pictures_are_shown_with_ample_memory(rt: HostRuntime) -> Result<(), Fail> {
+    let alloc = rt.alloc();
+    let rows: [(&[u8], usize, u32); 5] = [
+        (b"YUV4MPEG2 W641 H9\n", 641 * 9 + 2 * 321 * 5, 3),
+        (b"YUV4MPEG2 W1280 H8\n", 1280 * 8 + 2 * 640 * 4, 3),
+        (b"YUV4MPEG2 W2 H720\n", 2 * 720 + 2 * 360, 3),
+        (b"YUV4MPEG2 W16 H16\n", 384, 130),
+        (b"YUV4MPEG2 W1 H1\n", 3, 300),
+    ];
+    for (header, samples, pictures) in rows {
+        let input = grey(alloc, header, samples, pictures)?;
+        let ran = run(alloc, &input, b"rest\n", NONE)?;
+        let Status::Ok(shows) = ran.status else {
+            panic!(rt; "not Ok");
+        };
+        let counts = shows.counts();
+        assert_eq!(rt; (counts.pictures, counts.nothing), (pictures, 0));
+        assert_eq!(rt; (counts.chosen, counts.shown), (pictures, pictures));
+    }
+    Ok(())
+}
+
 #[test]
 fn every_refusal(rt: HostRuntime) -> Result<(), Fail> {
     let alloc = rt.alloc();

@@ -13,7 +13,7 @@ use sal_y4m::Why;
 // The line of words that aren't in the grammar.
 const USAGE: &[u8] = b"usage: salsify loop, send, receive, check or generate\n";
 
-// The word of a fault of the input. (until sal_y4m has it)
+// The word of a fault of the input.
 fn why_word(why: Why) -> &'static [u8]
     ensures { result.now ≡ word_of why }
 {
