@@ -3,3 +3,5 @@ mod BlockExamples
 pub mod Blocks
 pub mod BlockSteps
 pub mod TokenBits
+pub mod WrittenBits
+pub mod WrittenBlocks
