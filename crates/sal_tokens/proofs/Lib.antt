@@ -5,3 +5,4 @@ pub mod BlockSteps
 pub mod TokenBits
 pub mod WrittenBits
 pub mod WrittenBlocks
+pub mod WrittenMacroblocks

@@ -128,7 +128,8 @@ after_macroblock has_y2 above left ls = after_blocks ls (places has_y2) (tokens 
 abbrev pub macroblock_pairs : List ℕ → Bool → List Bool → List Bool → List (List ℤ) → Pairs
 macroblock_pairs probabilities has_y2 above left ls = pairs_of probabilities (macroblock_branches has_y2 above left ls)
 
--- coefficients that a macroblock can have: without Y2 none in its block, and with it none at the first position of a luma block
+-- coefficients that a macroblock can have, by block: without Y2 none in its block, and with it none at the first position of a luma block
 pub record AreWritable (has_y2 : Bool) (ls : List (List ℤ)) : Type 0 where
+  pub long : length ls ≡ 25
   pub no_y2 : has_y2 ≡ false → slice_index_or ls 24 [] ≡ replicate 16 (pos 0)
   pub no_first : has_y2 ≡ true → (k : ℕ) → k < 16 → slice_index_or (slice_index_or ls k []) 0 (pos 0) ≡ pos 0
