@@ -8,4 +8,8 @@ pub mod Raster
 pub mod SplitLemmas
 mod VectorExamples
 pub mod VectorLemmas
+pub mod WrittenVectors
+pub mod WrittenModes
+pub mod PuttingModes
+pub mod ModeBounds
 pub mod Suggested

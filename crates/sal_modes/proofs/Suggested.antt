@@ -1,16 +1,15 @@
 -- Where the suggested vectors come from, and where they lie.
-use Rattle.std.proofs.Common.{◌≡◌, ℕ, suc, zero, ◌+◌, ℤ, pos, neg_ℤ, ◌≤ℤ◌, List, [], ◌∷◌, Bool, true, false, All, refl, arith, if◌then◌else◌, inl, inr, ◌⊎◌, nat_le, get_or}
+use Rattle.std.proofs.Common.{ℕ, suc, zero, ◌+◌, ℤ, neg_ℤ, ◌≤ℤ◌, List, [], ◌∷◌, Bool, true, false, All, refl, arith, if◌then◌else◌, inl, inr, nat_le}
 use Rattle.std.proofs.lemmas.Int.{ints, int_max_is, int_min_is}
 use Rattle.std.specs.Int.{int_max}
 use Rattle.std.proofs.lemmas.List.Elements.{All-set, All-replicate}
-use Rattle.sal_base.specs.declared.kinds.Vector.{Vector}
 use Rattle.sal_macroblock.specs.declared.mode.MbMode.{MbMode}
 use Rattle.sal_macroblock.specs.Macroblocks.{own_vector, is_intra}
 use Rattle.sal_modes.specs.declared.around.Bias.{Bias}
 use Rattle.sal_modes.specs.declared.around.Bounds.{Bounds}
 use Rattle.sal_modes.specs.declared.near.Slots.{Slots}
 use Rattle.sal_modes.specs.Vectors.{between}
-use Rattle.sal_modes.specs.Near.{Motion, still, motion_of, equal, motion_at, no_slots, count, counted, next_filled, put_motion, bias_of, differ, negated, noted, joined, with_splits, ordered, best, clamped_to, near_from, near_of, IsNeighbours, IsSuggested, IsCutOff, AreOrdered, IsInBounds}
+use Rattle.sal_modes.specs.Near.{Motion, still, motion_of, equal, motion_at, no_slots, count, counted, next_filled, put_motion, bias_of, differ, negated, noted, joined, with_splits, ordered, best, clamped_to, near_of, IsSuggested, IsCutOff, AreOrdered, IsInBounds}
 
 -- what holds of each slot's vector
 Each : (Motion → Type 0) → Slots → Type 0

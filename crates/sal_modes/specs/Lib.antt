@@ -6,5 +6,5 @@ pub mod ReadVectors
 pub mod Rows
 pub mod SplitVectors
 pub mod Vectors
--- what modes are written as; no code writes them yet
+-- what modes are written as
 pub mod Written

@@ -1,6 +1,5 @@
 -- The modes and vectors of a macroblock, in the order of their bits (RFC 6386, 10, 11, 16 and 19.3).
-use Rattle.std.specs.Prelude.{◌≡◌, ℕ, ◌≤◌, List, [], ◌∷◌, Bool, true, false, not, ◌||◌, if◌then◌else◌, replicate, slice_index, slice_index_or}
-use Rattle.sal_base.specs.Kinds.{is_whole}
+use Rattle.std.specs.Prelude.{ℕ, List, [], ◌∷◌, Bool, false, not, if◌then◌else◌, replicate, slice_index, slice_index_or}
 use Rattle.sal_base.specs.Samples.{listed}
 use Rattle.sal_base.specs.declared.kinds.Vector.{Vector}
 use Rattle.sal_base.specs.declared.kinds.YMode.{YMode}
@@ -14,7 +13,7 @@ use Rattle.sal_header.specs.declared.header.Header.{Header}
 use Rattle.sal_macroblock.specs.declared.mode.RefKind.{RefKind}
 use Rattle.sal_macroblock.specs.declared.mode.RefKind.TheVariants.{Last, Golden, Alt}
 use Rattle.sal_macroblock.specs.declared.mode.MbMode.{MbMode}
-use Rattle.sal_macroblock.specs.Macroblocks.{zero_vector, own_vector, is_intra, is_b, is_split, implied}
+use Rattle.sal_macroblock.specs.Macroblocks.{zero_vector}
 use Rattle.sal_modes.specs.declared.around.Bias.{Bias}
 use Rattle.sal_modes.specs.declared.around.Near.{Near}
 use Rattle.sal_modes.specs.Vectors.{plus}

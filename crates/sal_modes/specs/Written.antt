@@ -1,6 +1,6 @@
 -- The pairs that the modes of a macroblock are written as, and which modes can be written. A macroblock in parts isn't written.
 -- Sections are those of RFC 6386.
-use Rattle.std.specs.Prelude.{◌≡◌, ◌≤◌, ℕ, suc, zero, ◌+◌, ℤ, ◌-ℤ◌, List, [], ◌∷◌, ◌++◌, Bool, true, false, not, ◌==◌, nat_lt, if◌then◌else◌, take, unsigned_abs, slice_index, slice_index_or, slice_range}
+use Rattle.std.specs.Prelude.{◌≡◌, ◌≤◌, ℕ, suc, zero, ◌+◌, ℤ, ◌-ℤ◌, List, [], ◌∷◌, ◌++◌, Bool, true, false, not, ◌==◌, ◌&&◌, nat_lt, if◌then◌else◌, take, unsigned_abs, slice_index, slice_index_or, slice_range}
 use Rattle.sal_base.specs.declared.kinds.Vector.{Vector}
 use Rattle.sal_base.specs.declared.kinds.YMode.{YMode}
 use Rattle.sal_base.specs.declared.kinds.YMode.TheVariants.{V, H, TM, B, NEAREST, NEAR, NEW, SPLIT}
@@ -20,6 +20,11 @@ use Rattle.sal_modes.specs.Near.{near_of}
 use Rattle.sal_modes.specs.Around.{Around}
 use Rattle.sal_modes.specs.IntraModes.{sub_number, sub_probabilities}
 use Rattle.sal_modes.specs.Modes.{mode_row, bias_for}
+
+-- each place of a way is below n
+abbrev pub are_below : ℕ → Pairs → Bool
+are_below n [] = true
+are_below n (x ∷ xs) = nat_lt x.0 n && are_below n xs
 
 -- the leaf of a mode in the Y and chroma trees
 abbrev pub whole_number : YMode → ℕ

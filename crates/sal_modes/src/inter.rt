@@ -85,7 +85,7 @@ fn mode_probability(count: u8, place: usize) -> u8
 
 // The vector mode's four probabilities, by the counts of near vectors.
 #[tactic(auto, unfolding(sal_base::specs::Samples::listed_from))]
-fn mode_row(counts: &[u8; 4]) -> [u8; 4]
+pub(crate) fn mode_row(counts: &[u8; 4]) -> [u8; 4]
     requires { All (λ c. c ≤ 5) counts.now }
     ensures { result ≡ mode_row counts.now }
 {
@@ -98,7 +98,7 @@ fn mode_row(counts: &[u8; 4]) -> [u8; 4]
 }
 
 // What the macroblocks around one suggest to it.
-fn near_for(header: &Header, around: &Neighbours<'_>, reference: RefKind) -> Near
+pub(crate) fn near_for(header: &Header, around: &Neighbours<'_>, reference: RefKind) -> Near
     requires { AreNear around.now.bounds }
     ensures value { result ≡ near_of around.now.above around.now.left around.now.corner (bias_for header.now reference) around.now.bounds }
     ensures row { Within 5120 result.best.row }

@@ -85,7 +85,7 @@ fn sub_row(above: SubMode, left: SubMode) -> &'static [u8]
 }
 
 // The probabilities of subblock k's mode, by those before it.
-fn sub_probabilities(
+pub(crate) fn sub_probabilities(
     key: bool,
     around: &Neighbours<'_>,
     modes: &[SubMode; 16],

@@ -1,9 +1,13 @@
 //! Near vectors, and the macroblocks of two frames of 3 by 2 read from bytes; the latter are an independent program's.
 
+ghost use Rattle.std.specs.Prelude.{◌≡◌};
+ghost use Rattle.sal_modes.specs.Rows.{first_row, around};
+ghost use Rattle.sal_modes.specs.Written.{IsWritable};
+
 use super::*;
 use sal_base::SubMode::{BDC, BHD, BHE, BHU, BLD, BRD, BTM, BVE, BVL, BVR};
 use sal_base::{SubMode, Vector, YMode};
-use sal_bool::Decoder;
+use sal_bool::{Decoder, Encoder};
 use sal_header::Header;
 use sal_probs::{Probs, Updates};
 use std::alloc::Global;
@@ -188,7 +192,9 @@ const FRAMES: [Frame; 2] = [
 ];
 
 /// A header with segments, skipped macroblocks and golden negated by sign bias in inter frames.
-fn header(key: bool) -> Header {
+fn header(key: bool) -> Header
+    ensures { result.key ≡ key }
+{
     Header {
         key,
         shown: true,
@@ -271,6 +277,71 @@ fn macroblocks_of_frames(rt: HostRuntime) {
             "key {key}"
         );
     }
+}
+
+/// Whether a macroblock that is written first in a frame of 3 by 2 is read as it was written.
+fn is_read_again(alloc: Global, header: &Header, mode: &MbMode) -> Option<bool>
+    requires { IsWritable header.now (around (first_row 3 2) 0) mode.now }
+{
+    let probs = Probs::initial(alloc).ok()?;
+    let mut row = Row::new(alloc, 3, 2).ok()?;
+    let mut encoder = Encoder::new(alloc);
+    write_mb(&mut encoder, header, &probs, &mut row, 0, mode).ok()?;
+    let bytes = encoder.finish().ok()?;
+    let mut again = Row::new(alloc, 3, 2).ok()?;
+    let read = read_mb(
+        &mut Decoder::new(bytes.as_slice()),
+        header,
+        &probs,
+        &mut again,
+        0,
+    );
+    Some(read == *mode)
+}
+
+#[test]
+fn macroblocks_are_read_as_they_were_written(rt: HostRuntime) {
+    let whole = MbMode {
+        segment: 2,
+        skip: false,
+        reference: RefKind::Intra,
+        y: YMode::TM,
+        sub: [BTM; 16],
+        chroma: YMode::V,
+        vectors: [Vector { row: 0, column: 0 }; 16],
+    };
+    let subblocks = MbMode {
+        segment: 1,
+        skip: false,
+        reference: RefKind::Intra,
+        y: YMode::B,
+        sub: [
+            BLD, BLD, BHU, BHE, BVL, BDC, BDC, BLD, BVL, BHU, BHE, BVR, BRD, BDC, BHD, BTM,
+        ],
+        chroma: YMode::H,
+        vectors: [Vector { row: 0, column: 0 }; 16],
+    };
+    let still = MbMode {
+        segment: 3,
+        skip: false,
+        reference: RefKind::Golden,
+        y: YMode::ZERO,
+        sub: [BDC; 16],
+        chroma: YMode::DC,
+        vectors: [Vector { row: 0, column: 0 }; 16],
+    };
+    assert_eq!(rt;
+        is_read_again(rt.alloc(), &header(true), &whole),
+        Some(true)
+    );
+    assert_eq!(rt;
+        is_read_again(rt.alloc(), &header(true), &subblocks),
+        Some(true)
+    );
+    assert_eq!(rt;
+        is_read_again(rt.alloc(), &header(false), &still),
+        Some(true)
+    );
 }
 
 #[test]

@@ -6,3 +6,5 @@ pub mod TokenBits
 pub mod WrittenBits
 pub mod WrittenBlocks
 pub mod WrittenMacroblocks
+pub mod Taking
+pub mod TakingBlocks

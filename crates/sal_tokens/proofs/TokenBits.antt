@@ -1,14 +1,14 @@
 -- How many bits the coefficients of a macroblock take at most.
-use Rattle.std.proofs.Common.{◌≡◌, ℕ, suc, zero, ◌+◌, ◌-◌, ◌*◌, ◌≤◌, ℤ, List, [], ◌∷◌, Bool, true, false, not, ◌==◌, ◌<◌, refl, arith, length, subst, get_or, nat_lt, if◌then◌else◌, min, lit≤}
+use Rattle.std.proofs.Common.{◌≡◌, ℕ, suc, zero, ◌+◌, ◌-◌, ◌*◌, ◌≤◌, List, [], ◌∷◌, Bool, true, false, not, ◌==◌, refl, arith, length, subst, get_or, nat_lt, min, lit≤}
 use Rattle.sal_base.specs.Samples.{listed_from}
-use Rattle.sal_bool.specs.Syntax.{Syntax, Done, ◌>>=◌, flag, number, leaf_from, signed, when}
+use Rattle.sal_bool.specs.Syntax.{number, leaf_from}
 use Rattle.sal_bool.specs.Sizes.{TakesAtMost}
 use Rattle.sal_bool.proofs.Bounds.{takes_more, takes_done, takes_then, takes_if, takes_one, takes_number, takes_walk}
-use Rattle.sal_tables.specs.Tables.{category_bits_of, category_bases_of}
+use Rattle.sal_tables.specs.Tables.{category_bits_of}
 use Rattle.sal_tables.specs.Trees.{token_entries}
 use Rattle.sal_macroblock.specs.Blocks.{no_coefficients}
 use Rattle.sal_tokens.specs.declared.places.Place.{Place}
-use Rattle.sal_tokens.specs.Coefficients.{token_row, token_size, start_of, coefficients, filled_block, is_some_coefficient, first_position, block}
+use Rattle.sal_tokens.specs.Coefficients.{token_row, token_size, start_of, coefficients, first_position, block}
 use Rattle.sal_tokens.specs.Blocks.{places, Tokens, tokens, context, with_block, blocks, macroblock}
 
 -- a token's way through its tree

@@ -1,5 +1,5 @@
 -- What is written of a token, its extra bits and its sign is read as that.
-use Rattle.std.proofs.Common.{◌≡◌, ℕ, suc, zero, ◌+◌, ◌-◌, ◌*◌, ◌^◌, ◌%◌, ◌≤◌, ◌<◌, ◌∙◌, ℤ, pos, negsuc, List, [], ◌∷◌, Bool, true, false, not, ◌==◌, ◌&&◌, length, take, drop, get_or, refl, sym, ap, arith, subst, slice_index, slice_index_or, slice_range, unsigned_abs, inl, inr, Option, Some, nat_lt, lit<, lit≤}
+use Rattle.std.proofs.Common.{◌≡◌, ℕ, suc, zero, ◌+◌, ◌-◌, ◌*◌, ◌^◌, ◌%◌, ◌≤◌, ◌<◌, ◌∙◌, ℤ, pos, negsuc, List, [], ◌∷◌, Bool, true, false, not, ◌==◌, ◌&&◌, length, take, drop, get_or, refl, sym, ap, arith, subst, slice_index, slice_index_or, slice_range, unsigned_abs, inl, inr, Option, Some, lit<, lit≤}
 use Rattle.std.proofs.lemmas.Bool.{lt-ltb, le-ltb, lt-leb, le-leb, ltb-true, cases_lt, ne_eqb}
 use Rattle.std.proofs.lemmas.List.{get_or-take, get_or-drop}
 use Rattle.std.proofs.Math.Nat.{mod-eq_of_lt}
@@ -9,28 +9,7 @@ use Rattle.sal_bool.proofs.Writing.{follows_done, follows_end, follows_one, foll
 use Rattle.sal_tables.specs.Tables.{category_bases_of, category_bits_of}
 use Rattle.sal_tables.specs.Trees.{token_entries}
 use Rattle.sal_tokens.specs.Coefficients.{token_row, token_size, start_of}
-use Rattle.sal_tokens.specs.Written.{pairs_of, category_count, token_of, row_at, placed, token_branches, fixed, extra_branches, sign_branches}
-
--- the way to each token's leaf
-unfoldable pub ways : List Pairs
-ways =
-    ((0, false) ∷ [])
-    ∷ ((0, true) ∷ (1, false) ∷ [])
-    ∷ ((0, true) ∷ (1, true) ∷ (2, false) ∷ [])
-    ∷ ((0, true) ∷ (1, true) ∷ (2, true) ∷ (3, false) ∷ (4, false) ∷ [])
-    ∷ ((0, true) ∷ (1, true) ∷ (2, true) ∷ (3, false) ∷ (4, true) ∷ (5, false) ∷ [])
-    ∷ ((0, true) ∷ (1, true) ∷ (2, true) ∷ (3, false) ∷ (4, true) ∷ (5, true) ∷ [])
-    ∷ ((0, true) ∷ (1, true) ∷ (2, true) ∷ (3, true) ∷ (6, false) ∷ (7, false) ∷ [])
-    ∷ ((0, true) ∷ (1, true) ∷ (2, true) ∷ (3, true) ∷ (6, false) ∷ (7, true) ∷ [])
-    ∷ ((0, true) ∷ (1, true) ∷ (2, true) ∷ (3, true) ∷ (6, true) ∷ (8, false) ∷ (9, false) ∷ [])
-    ∷ ((0, true) ∷ (1, true) ∷ (2, true) ∷ (3, true) ∷ (6, true) ∷ (8, false) ∷ (9, true) ∷ [])
-    ∷ ((0, true) ∷ (1, true) ∷ (2, true) ∷ (3, true) ∷ (6, true) ∷ (8, true) ∷ (10, false) ∷ [])
-    ∷ ((0, true) ∷ (1, true) ∷ (2, true) ∷ (3, true) ∷ (6, true) ∷ (8, true) ∷ (10, true) ∷ []) ∷ []
-
--- each place of a way is below 11
-abbrev pub are_small : Pairs → Bool
-are_small [] = true
-are_small (x ∷ xs) = nat_lt x.0 11 && are_small xs
+use Rattle.sal_tokens.specs.Written.{ways, are_small, pairs_of, category_count, token_of, row_at, placed, token_branches, fixed, extra_branches, sign_branches}
 
 abbrev way_from : Bool → ℕ → Option Pairs
 way_from after t = way (length token_entries) token_entries (start_of after) t
@@ -58,7 +37,7 @@ way_at (suc (suc (suc (suc (suc (suc (suc (suc (suc (suc zero)))))))))) lt = rec
 way_at (suc (suc (suc (suc (suc (suc (suc (suc (suc (suc (suc zero))))))))))) lt = record { whole = refl; later = λ h. refl; small = refl; long = lit< tt }
 way_at (suc (suc (suc (suc (suc (suc (suc (suc (suc (suc (suc (suc t)))))))))))) lt = absurd (omega arith)
 
-both : (a b : Bool) → (a && b) ≡ true → (a ≡ true) × (b ≡ true)
+pub both : (a b : Bool) → (a && b) ≡ true → (a ≡ true) × (b ≡ true)
 both true true h = (refl, refl)
 both true false h = cc
 both false b h = cc
@@ -84,7 +63,7 @@ path_again xs row at t path is small =
     let Q : Option Pairs → Type 0 = λ o. P (pairs_of xs (placed row o)) in
     subst Q (sym is) (subst P (sym (placed_taken xs row path small)) h)
 
-small_later : (path : Pairs) → are_small path ≡ true → are_small (drop 1 path) ≡ true
+pub small_later : (path : Pairs) → are_small path ≡ true → are_small (drop 1 path) ≡ true
 small_later [] h = h
 small_later (x ∷ path) h = (both _ _ h).1
 
@@ -109,27 +88,27 @@ pub record IsCategory (size k : ℕ) : Type 0 where
 IsCounted : ℕ → ℕ → Type 0
 IsCounted size k = category_count size ≡ k
 
-from_67 : (size : ℕ) → 67 ≤ size → category_count size ≡ 6
+pub from_67 : (size : ℕ) → 67 ≤ size → category_count size ≡ 6
 unfolding category_bases_of
 from_67 size le = rw (le-leb 5 size (omega (arith, le)), le-leb 7 size (omega (arith, le)), le-leb 11 size (omega (arith, le)), le-leb 19 size (omega (arith, le)), le-leb 35 size (omega (arith, le)), le-leb 67 size le) refl
 
-from_35 : (size : ℕ) → 35 ≤ size → size < 67 → category_count size ≡ 5
+pub from_35 : (size : ℕ) → 35 ≤ size → size < 67 → category_count size ≡ 5
 unfolding category_bases_of
 from_35 size le lt = rw (le-leb 5 size (omega (arith, le)), le-leb 7 size (omega (arith, le)), le-leb 11 size (omega (arith, le)), le-leb 19 size (omega (arith, le)), le-leb 35 size le, lt-leb 67 size lt) refl
 
-from_19 : (size : ℕ) → 19 ≤ size → size < 35 → category_count size ≡ 4
+pub from_19 : (size : ℕ) → 19 ≤ size → size < 35 → category_count size ≡ 4
 unfolding category_bases_of
 from_19 size le lt = rw (le-leb 5 size (omega (arith, le)), le-leb 7 size (omega (arith, le)), le-leb 11 size (omega (arith, le)), le-leb 19 size le, lt-leb 35 size lt, lt-leb 67 size (omega (arith, lt))) refl
 
-from_11 : (size : ℕ) → 11 ≤ size → size < 19 → category_count size ≡ 3
+pub from_11 : (size : ℕ) → 11 ≤ size → size < 19 → category_count size ≡ 3
 unfolding category_bases_of
 from_11 size le lt = rw (le-leb 5 size (omega (arith, le)), le-leb 7 size (omega (arith, le)), le-leb 11 size le, lt-leb 19 size lt, lt-leb 35 size (omega (arith, lt)), lt-leb 67 size (omega (arith, lt))) refl
 
-from_7 : (size : ℕ) → 7 ≤ size → size < 11 → category_count size ≡ 2
+pub from_7 : (size : ℕ) → 7 ≤ size → size < 11 → category_count size ≡ 2
 unfolding category_bases_of
 from_7 size le lt = rw (le-leb 5 size (omega (arith, le)), le-leb 7 size le, lt-leb 11 size lt, lt-leb 19 size (omega (arith, lt)), lt-leb 35 size (omega (arith, lt)), lt-leb 67 size (omega (arith, lt))) refl
 
-from_5 : (size : ℕ) → 5 ≤ size → size < 7 → category_count size ≡ 1
+pub from_5 : (size : ℕ) → 5 ≤ size → size < 7 → category_count size ≡ 1
 unfolding category_bases_of
 from_5 size le lt = rw (le-leb 5 size le, lt-leb 7 size lt, lt-leb 11 size (omega (arith, lt)), lt-leb 19 size (omega (arith, lt)), lt-leb 35 size (omega (arith, lt)), lt-leb 67 size (omega (arith, lt))) refl
 

@@ -1,30 +1,20 @@
 -- What is written of a macroblock is read as that.
-use Rattle.std.proofs.Common.{◌≡◌, ◌⊎◌, ℕ, suc, zero, ◌+◌, ◌-◌, ◌≤◌, ◌<◌, ◌∙◌, ◌≢◌, ℤ, pos, List, [], ◌∷◌, Bool, true, false, not, ◌&&◌, ◌||◌, if◌then◌else◌, ◌==◌, length, replicate, get_or, refl, sym, ap, arith, subst, slice_index_or, slice_set, set, inl, inr, nat_lt, All}
+use Rattle.std.proofs.Common.{◌≡◌, ◌⊎◌, ℕ, suc, zero, ◌<◌, ◌∙◌, ◌≢◌, ℤ, pos, List, [], ◌∷◌, Bool, true, false, ◌&&◌, ◌||◌, if◌then◌else◌, ◌==◌, length, replicate, get_or, refl, sym, ap, arith, subst, slice_index_or, slice_set, inl, inr, nat_lt, All}
 use Rattle.std.proofs.lemmas.Bool.{eqb-true, eq-eqb, ltb-true, cases_lt}
-use Rattle.std.proofs.lemmas.List.{get_or-set_same, get_or-set_other, get_or-replicate, length-set, ext_get_or}
+use Rattle.std.proofs.lemmas.List.{get_or-set_same, get_or-set_other, length-set, ext_get_or}
 use Rattle.sal_base.specs.Samples.{listed_from}
 use Rattle.sal_macroblock.specs.Sizes.{Within}
 use Rattle.sal_macroblock.specs.Blocks.{no_coefficients}
 use Rattle.sal_bool.specs.Syntax.{Follows}
-use Rattle.sal_tokens.specs.Coefficients.{first_position}
-use Rattle.sal_tokens.specs.Blocks.{Tokens, tokens, places, with_block, blocks, macroblock}
-use Rattle.sal_tokens.specs.Written.{is_some_block, block_at, after_blocks, macroblock_branches, after_macroblock, macroblock_pairs, AreWritable}
+use Rattle.sal_tokens.specs.Blocks.{Tokens, tokens, places, with_block, macroblock}
+use Rattle.sal_tokens.specs.Written.{block_at, after_blocks, macroblock_branches, after_macroblock, macroblock_pairs, AreWritable, AreSized}
 use Rattle.sal_tokens.specs.declared.places.Place.{Place}
-use Rattle.sal_tokens.proofs.WrittenBlocks.{AreSmall, IsBlock, AreBlocks, abs_small, blocks_again}
+use Rattle.sal_tokens.proofs.WrittenBlocks.{AreSmall, AreBlocks, abs_small, blocks_again}
 
 both : (a b : Bool) → (a && b) ≡ true → (a ≡ true) × (b ≡ true)
 both true true h = (refl, refl)
 both true false h = cc
 both false b h = cc
-
--- a block has sixteen coefficients that a token can have
-pub record IsSized (zs : List ℤ) : Type 0 where
-  pub long : length zs ≡ 16
-  pub small : All (Within 2114) zs
-
-abbrev pub AreSized : List (List ℤ) → List Place → Type 0
-AreSized ls [] = Unit {0}
-AreSized ls (p ∷ ps) = IsSized (slice_index_or ls p.index []) × AreSized ls ps
 
 pub all_small : (zs : List ℤ) → All (Within 2114) zs → AreSmall zs
 all_small [] h = tt

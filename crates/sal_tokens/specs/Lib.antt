@@ -1,4 +1,4 @@
 pub mod Coefficients
 pub mod Blocks
--- what coefficients are written as; no code writes them yet
+-- what coefficients are written as
 pub mod Written

@@ -1,11 +1,12 @@
 -- The bits that coefficients are written as, in their order, each by the place of its probability (RFC 6386, 13 and 19.3). One list
 -- gives both the pairs that are put and the branches that are counted.
-use Rattle.std.specs.Prelude.{◌≡◌, ℕ, suc, zero, ◌+◌, ◌-◌, ◌*◌, ◌<◌, min, ℤ, pos, List, [], ◌∷◌, ◌++◌, Bool, true, false, ◌==◌, nat_lt, nat_le, Option, Some, None, if◌then◌else◌, map, drop, length, replicate, count_by, unsigned_abs, slice_index, slice_index_or, slice_set}
+use Rattle.std.specs.Prelude.{◌≡◌, ℕ, suc, zero, ◌+◌, ◌-◌, ◌*◌, ◌<◌, min, ℤ, pos, List, [], ◌∷◌, ◌++◌, Bool, true, false, ◌==◌, ◌&&◌, nat_lt, nat_le, Option, Some, None, if◌then◌else◌, map, drop, length, replicate, count_by, unsigned_abs, slice_index, slice_index_or, slice_set, All}
 use Rattle.sal_bool.specs.Syntax.{bit_of}
 use Rattle.sal_bool.specs.Pairs.{Pairs, pair, number_pairs, is_negative, way}
 use Rattle.sal_tables.specs.Tables.{bands_of, category_bases_of, category_bits_of}
 use Rattle.sal_tables.specs.Trees.{token_entries}
 use Rattle.sal_macroblock.specs.Blocks.{no_coefficients}
+use Rattle.sal_macroblock.specs.Sizes.{Within}
 use Rattle.sal_tokens.specs.Coefficients.{first_position, start_of, is_some_coefficient}
 use Rattle.sal_tokens.specs.Blocks.{Tokens, tokens, places, context, with_block}
 use Rattle.sal_tokens.specs.declared.places.Place.{Place}
@@ -46,6 +47,27 @@ category_count size = count_by (λ (b : ℕ). nat_le b size) category_bases_of
 -- the token of a size: up to 4 its own, then its category's (13.2)
 unfoldable pub token_of : ℕ → ℕ
 token_of size = if nat_lt size 5 then size + 1 else 5 + category_count size
+
+-- the way to each token's leaf from the root (13.2)
+unfoldable pub ways : List Pairs
+ways =
+    ((0, false) ∷ [])
+    ∷ ((0, true) ∷ (1, false) ∷ [])
+    ∷ ((0, true) ∷ (1, true) ∷ (2, false) ∷ [])
+    ∷ ((0, true) ∷ (1, true) ∷ (2, true) ∷ (3, false) ∷ (4, false) ∷ [])
+    ∷ ((0, true) ∷ (1, true) ∷ (2, true) ∷ (3, false) ∷ (4, true) ∷ (5, false) ∷ [])
+    ∷ ((0, true) ∷ (1, true) ∷ (2, true) ∷ (3, false) ∷ (4, true) ∷ (5, true) ∷ [])
+    ∷ ((0, true) ∷ (1, true) ∷ (2, true) ∷ (3, true) ∷ (6, false) ∷ (7, false) ∷ [])
+    ∷ ((0, true) ∷ (1, true) ∷ (2, true) ∷ (3, true) ∷ (6, false) ∷ (7, true) ∷ [])
+    ∷ ((0, true) ∷ (1, true) ∷ (2, true) ∷ (3, true) ∷ (6, true) ∷ (8, false) ∷ (9, false) ∷ [])
+    ∷ ((0, true) ∷ (1, true) ∷ (2, true) ∷ (3, true) ∷ (6, true) ∷ (8, false) ∷ (9, true) ∷ [])
+    ∷ ((0, true) ∷ (1, true) ∷ (2, true) ∷ (3, true) ∷ (6, true) ∷ (8, true) ∷ (10, false) ∷ [])
+    ∷ ((0, true) ∷ (1, true) ∷ (2, true) ∷ (3, true) ∷ (6, true) ∷ (8, true) ∷ (10, true) ∷ []) ∷ []
+
+-- each place of a way is below 11
+abbrev pub are_small : Pairs → Bool
+are_small [] = true
+are_small (x ∷ xs) = nat_lt x.0 11 && are_small xs
 
 -- the place of the first of a token's eleven probabilities (13.3)
 unfoldable pub row_at : ℕ → ℕ → ℕ → ℕ
@@ -125,6 +147,12 @@ macroblock_branches has_y2 above left ls = blocks_branches ls (places has_y2) (t
 unfoldable pub after_macroblock : Bool → List Bool → List Bool → List (List ℤ) → Tokens
 after_macroblock has_y2 above left ls = after_blocks ls (places has_y2) (tokens no_coefficients false above left)
 
+-- whether some block's first token isn't the end, and the contexts that are left
+pub record Leaves (t : Tokens) (has_coefficients : Bool) (above left : List Bool) : Type 0 where
+  pub some : t.has_coefficients ≡ has_coefficients
+  pub over : t.above ≡ above
+  pub beside : t.left ≡ left
+
 abbrev pub macroblock_pairs : List ℕ → Bool → List Bool → List Bool → List (List ℤ) → Pairs
 macroblock_pairs probabilities has_y2 above left ls = pairs_of probabilities (macroblock_branches has_y2 above left ls)
 
@@ -133,3 +161,12 @@ pub record AreWritable (has_y2 : Bool) (ls : List (List ℤ)) : Type 0 where
   pub long : length ls ≡ 25
   pub no_y2 : has_y2 ≡ false → slice_index_or ls 24 [] ≡ replicate 16 (pos 0)
   pub no_first : has_y2 ≡ true → (k : ℕ) → k < 16 → slice_index_or (slice_index_or ls k []) 0 (pos 0) ≡ pos 0
+
+-- a block has sixteen coefficients that a token can have
+pub record IsSized (zs : List ℤ) : Type 0 where
+  pub long : length zs ≡ 16
+  pub small : All (Within 2114) zs
+
+abbrev pub AreSized : List (List ℤ) → List Place → Type 0
+AreSized ls [] = Unit {0}
+AreSized ls (p ∷ ps) = IsSized (slice_index_or ls p.index []) × AreSized ls ps

@@ -98,7 +98,7 @@ fn start_of(after_zero: bool) -> usize
     if after_zero { 2 } else { 0 }
 }
 
-fn first_position(kind: usize) -> usize
+pub(crate) fn first_position(kind: usize) -> usize
     ensures { result ≡ first_position kind }
 {
     if kind == 0 { 1 } else { 0 }

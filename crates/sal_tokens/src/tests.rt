@@ -1,7 +1,15 @@
-//! Blocks read from bytes at the default probabilities; the values are an independent program's.
+//! Blocks read from bytes at the default probabilities, the values being an independent program's; and blocks that are written, read
+//! back and counted.
 
-use crate::{Contexts, read_block, read_macroblock, skip_macroblock};
-use sal_bool::Decoder;
+ghost use Rattle.std.specs.Prelude.{◌≡◌, ◌<◌, ◌≤◌, All, true, false};
+ghost use Rattle.sal_macroblock.specs.Sizes.{Within};
+
+use crate::{
+    Contexts, Counts, count_block, count_macroblock, read_block, read_macroblock, skip_macroblock,
+    write_block, write_macroblock,
+};
+use sal_base::Bytes;
+use sal_bool::{Decoder, Encoder};
 use sal_macroblock::{Block, Coefficients};
 use sal_probs::Probs;
 use std::alloc::Global;
@@ -285,4 +293,160 @@ fn skipped_macroblocks_clear_contexts(rt: HostRuntime) {
     assert_eq!(rt; left, Contexts::none());
     skip_macroblock(true, &mut above, &mut left);
     assert_eq!(rt; above, Contexts::none());
+}
+
+/// What a block is written as at the default probabilities, and whether its first token isn't the end; or none for want of memory.
+fn written(alloc: Global, kind: u8, context: u8, block: &Block) -> Option<(Bytes, bool)> {
+    let fits = block
+        .0
+        .iter()
+        .all(|coefficient| (-2114..=2114).contains(coefficient));
+    if kind > 3 || context > 2 || !fits || (kind == 0 && block.0[0] != 0) {
+        return None;
+    }
+    let probs = Probs::initial(alloc).ok()?;
+    let mut encoder = Encoder::new(alloc);
+    let starts = write_block(&mut encoder, &probs, kind, context, block).ok()?;
+    Some((encoder.finish().ok()?, starts))
+}
+
+#[test]
+fn blocks_are_read_as_they_were_written(rt: HostRuntime) {
+    for (kind, context, _, coefficients, has_coefficients) in ROWS {
+        let Some((bytes, starts)) = written(rt.alloc(), kind, context, &Block(coefficients)) else {
+            panic!(rt; "kind {kind}, context {context}");
+        };
+        assert_eq!(rt; starts, has_coefficients, "kind {kind}, context {context}");
+        assert_eq!(rt;
+            read(rt.alloc(), kind, context, bytes.as_slice()),
+            Some((Block(coefficients), has_coefficients)),
+            "kind {kind}, context {context}"
+        );
+    }
+}
+
+/// Whether a macroblock that has coefficients in one block alone is read as it was written, with the contexts that it leaves.
+fn is_read_again(alloc: Global, has_y2: bool, index: usize, block: &Block) -> Option<bool>
+    requires index { index < 25 }
+    requires with { has_y2 ≡ true → 16 ≤ index }
+    requires without { has_y2 ≡ false → index < 24 }
+    requires small { All (Within 2114) block.now.0 }
+{
+    let probs = Probs::initial(alloc).ok()?;
+    let mut coefficients = Coefficients::none();
+    coefficients.put(index, *block);
+    let mut encoder = Encoder::new(alloc);
+    let mut above = Contexts([true; 9]);
+    let mut left = Contexts::none();
+    let starts = write_macroblock(
+        &mut encoder,
+        &probs,
+        has_y2,
+        &mut above,
+        &mut left,
+        &coefficients,
+    )
+    .ok()?;
+    let bytes = encoder.finish().ok()?;
+    let mut read = Coefficients::none();
+    let mut over = Contexts([true; 9]);
+    let mut beside = Contexts::none();
+    let has_coefficients = read_macroblock(
+        &mut Decoder::new(bytes.as_slice()),
+        &probs,
+        has_y2,
+        &mut over,
+        &mut beside,
+        &mut read,
+    );
+    let same = read.block(index) == block && read.block(0) == coefficients.block(0);
+    Some(same && over == above && beside == left && has_coefficients == starts)
+}
+
+#[test]
+fn macroblocks_are_read_as_they_were_written(rt: HostRuntime) {
+    let block = Block([-2114, 0, 0, 5, 1, 0, 0, 0, 0, 0, 0, 0, 0, 0, 0, -67]);
+    assert_eq!(rt; is_read_again(rt.alloc(), false, 5, &block), Some(true));
+    assert_eq!(rt; is_read_again(rt.alloc(), true, 24, &block), Some(true));
+    assert_eq!(rt; is_read_again(rt.alloc(), true, 21, &block), Some(true));
+}
+
+/// A block's kind, context and first coefficients, of which the others are 0, and each bit at a coefficient probability with the
+/// type, band, context and place of that.
+type Counted = (
+    u8,
+    u8,
+    &'static [i32],
+    &'static [(usize, usize, usize, usize, bool)],
+);
+
+const COUNTED: [Counted; 3] = [
+    (0, 2, &[], &[(0, 1, 2, 0, NO)]),
+    (
+        1,
+        0,
+        &[-1],
+        &[
+            (1, 0, 0, 0, YES),
+            (1, 0, 0, 1, YES),
+            (1, 0, 0, 2, NO),
+            (1, 1, 1, 0, NO),
+        ],
+    ),
+    // a zero, after which the end isn't tested, and a size of the second category
+    (
+        3,
+        1,
+        &[0, 7],
+        &[
+            (3, 0, 1, 0, YES),
+            (3, 0, 1, 1, NO),
+            (3, 1, 0, 1, YES),
+            (3, 1, 0, 2, YES),
+            (3, 1, 0, 3, YES),
+            (3, 1, 0, 6, NO),
+            (3, 1, 0, 7, YES),
+            (3, 2, 2, 0, NO),
+        ],
+    ),
+];
+
+/// A block with these first coefficients, and then zeros.
+fn block_of(first: &[i32]) -> Block {
+    let mut block = Block([0; 16]);
+    for (to, from) in block.0.iter_mut().zip(first) {
+        *to = *from;
+    }
+    block
+}
+
+/// The counts of a block.
+fn counted(kind: u8, context: u8, block: &Block) -> Option<Counts> {
+    let fits = block
+        .0
+        .iter()
+        .all(|coefficient| (-2114..=2114).contains(coefficient));
+    if kind > 3 || context > 2 || !fits {
+        return None;
+    }
+    let mut counts = Counts::none();
+    count_block(&mut counts, kind, context, block);
+    Some(counts)
+}
+
+#[test]
+fn bits_are_counted_where_their_probabilities_stand(rt: HostRuntime) {
+    for (kind, context, first, bits) in COUNTED {
+        let mut expected = Counts::none();
+        for (t, band, c, place, bit) in bits {
+            let at = ((*t * 8 + *band) * 3 + *c) * 11 + *place;
+            if let Some(here) = expected.pairs.get_mut(at) {
+                here[*bit as usize] = here[*bit as usize].saturating_add(1);
+            }
+        }
+        assert!(rt;
+            counted(kind, context, &block_of(first)) == Some(expected),
+            "kind {kind}, context {context}"
+        );
+    }
 }

@@ -1,4 +1,5 @@
 pub mod Factors
+pub mod Forward
 pub mod Hadamard
 pub mod Inverse
 pub mod Residue

@@ -8,7 +8,7 @@ use sal_tables::{ac_steps, dc_steps};
 use std::marker::Model;
 
 /// What coefficients are multiplied by: for luma, Y2 and chroma the factor of a block's first coefficient and that of the others. Each is
-/// at most 440.
+/// from 1 to 440.
 #[derive(Debug, Drop)]
 pub struct Factors {
     /// For the first coefficient of a luma block without Y2.
@@ -27,13 +27,13 @@ pub struct Factors {
 
 impl Model for Factors {
     ghost use Rattle.sal_transform.specs.Factors.{Factors as SixFactors};
-    ghost use Rattle.sal_transform.specs.Small.{AreSmall};
+    ghost use Rattle.sal_transform.specs.Small.{AreFactors};
 
     ghost Value = { SixFactors };
 
     ghost view = { λ s. record { y_dc = s.y_dc; y_ac = s.y_ac; y2_dc = s.y2_dc; y2_ac = s.y2_ac; uv_dc = s.uv_dc; uv_ac = s.uv_ac } };
 
-    ghost invariant = { λ s. AreSmall (record { y_dc = s.y_dc; y_ac = s.y_ac; y2_dc = s.y2_dc; y2_ac = s.y2_ac; uv_dc = s.uv_dc; uv_ac = s.uv_ac }) };
+    ghost invariant = { λ s. AreFactors (record { y_dc = s.y_dc; y_ac = s.y_ac; y2_dc = s.y2_dc; y2_ac = s.y2_ac; uv_dc = s.uv_dc; uv_ac = s.uv_ac }) };
 }
 
 /// A quantiser's index, cut off at 0 and at 127.
@@ -47,6 +47,7 @@ pub fn cut_off(index: i32) -> u8
 
 fn dc_factor(index: u8, delta: i8) -> u16
     ensures value { result ≡ dc_factor index delta }
+    ensures some { 1 ≤ result }
     ensures small { result ≤ 157 }
 {
     dc_steps()[cut_off(index as i32 + delta as i32) as usize]
@@ -54,6 +55,7 @@ fn dc_factor(index: u8, delta: i8) -> u16
 
 fn ac_factor(index: u8, delta: i8) -> u16
     ensures value { result ≡ ac_factor index delta }
+    ensures some { 1 ≤ result }
     ensures small { result ≤ 284 }
 {
     ac_steps()[cut_off(index as i32 + delta as i32) as usize]

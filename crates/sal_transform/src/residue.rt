@@ -35,8 +35,8 @@ fn flat(value: i32) -> [i32; 16]
     [(value + 4) >> 3; 16]
 }
 
-// The residues of a block whose first coefficient is its own.
-fn residue(block: &Block, dc: u16, ac: u16) -> [i32; 16]
+/// The residues of a block whose first coefficient is its own, in raster order.
+pub fn block_residue(block: &Block, dc: u16, ac: u16) -> [i32; 16]
     requires coefficients { All (Within 2114) block.now.0 }
     requires dc { dc ≤ 440 }
     requires ac { ac ≤ 440 }
@@ -81,7 +81,7 @@ fn luma_alone(coefficients: &Coefficients, dc: u16, ac: u16) -> [[i32; 16]; 16]
 {
     let mut residues = [[0; 16]; 16];
     for k in 0..16usize {
-        residues[k] = residue(coefficients.block(k), dc, ac);
+        residues[k] = block_residue(coefficients.block(k), dc, ac);
     }
     residues
 }
@@ -128,7 +128,7 @@ pub fn chroma_residues(
     let ac = factors.uv_ac;
     let mut residues = [[0; 16]; 4];
     for k in 0..4usize {
-        residues[k] = residue(coefficients.block(first + k), dc, ac);
+        residues[k] = block_residue(coefficients.block(first + k), dc, ac);
     }
     residues
 }

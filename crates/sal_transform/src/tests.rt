@@ -71,3 +71,30 @@ fn a_macroblock_of_one_y2_coefficient(rt: HostRuntime) {
     assert_eq!(rt; luma[0], [1; 16], "the first block");
     assert_eq!(rt; luma[15], [1; 16], "the last block");
 }
+
+/// A block of one value is sixteen times it, a half of which is its first coefficient's value; all others are 0.
+#[test]
+fn a_flat_block_forward(rt: HostRuntime) {
+    let mut values = [0; 16];
+    values[0] = 800;
+    assert_eq!(rt; forward(&[100; 16]), values, "rows and columns");
+    assert_eq!(rt; forward_y2(&[100; 16]), values, "Walsh-Hadamard");
+}
+
+/// Two thirds of a factor are a whole one, below that nothing is left; the sign is kept, and 2,047 is the greatest size.
+#[test]
+fn values_are_quantised(rt: HostRuntime) {
+    let mut values = [0; 16];
+    values[0] = -12;
+    values[1] = 16;
+    values[4] = 15;
+    values[8] = -40;
+    values[15] = 1000000;
+    let block = quant(&values, 19, 24);
+    let mut wanted = [0; 16];
+    wanted[1] = 1;
+    wanted[3] = -2;
+    wanted[15] = 2047;
+    assert_eq!(rt; block.0, wanted);
+    assert_eq!(rt; quant(&[-13; 16], 19, 440).0[0], -1, "two thirds of 19");
+}

@@ -1,0 +1,4 @@
+pub mod Plans
+pub mod FrameBytes
+pub mod Assembled
+pub mod Standing
