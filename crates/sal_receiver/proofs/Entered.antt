@@ -15,12 +15,12 @@ use Rattle.sal_chain.specs.Held.{not_below, in_order}
 use Rattle.sal_chain.proofs.HeldLemmas.{order_from, from_twice}
 use Rattle.sal_receiver.specs.declared.answers.Delivered.TheVariants.{Taken}
 use Rattle.sal_receiver.specs.declared.pending_frame.PendingFrame.{PendingFrame}
-use Rattle.sal_receiver.specs.Past.{Call, Deliver, taken, floor, now, session, head, arrivals, arrival_of, head_of}
+use Rattle.sal_receiver.specs.Past.{ReceiverCall, Deliver, taken, floor, now, session, head, arrivals, arrival_of, head_of}
 use Rattle.sal_receiver.specs.Held.{held, decoded, state_among}
 use Rattle.sal_receiver.specs.Answers.{refusal, unless_refused, ack_saying, ack_after, deliver_answer}
-use Rattle.sal_receiver.specs.Promises.{Answers}
+use Rattle.sal_receiver.specs.Promises.{ReceiverAnswers}
 use Rattle.sal_receiver.specs.Pending.{at, left_from, Rises}
-use Rattle.sal_receiver.specs.Machine.{ReceiverState, Stands, IsEntered, entered, pending}
+use Rattle.sal_receiver.specs.Machine.{ReceiverState, ReceiverStands, IsEntered, entered, pending}
 use Rattle.sal_receiver.proofs.FrameLemmas.{rises_left}
 use Rattle.sal_receiver.proofs.Holding.{held_raised, held_stale}
 use Rattle.sal_receiver.proofs.Was.{first_parts, clash_none}
@@ -42,25 +42,25 @@ floor_with e es low = floor_step (ltb e.number (floor_of es)) e es refl low
 
 module _ {S : Type 0} (codec : Coding S) where
   -- what is held stands at or above the floor
-  held_again : (past : List (Call S)) → not_below (floor past) (held codec past) ≡ held codec past
+  held_again : (past : List (ReceiverCall S)) → not_below (floor past) (held codec past) ≡ held codec past
   held_again past =
       sym (order_from (floor past) (not_below (floor past) (decoded codec past))) ∙ ap (λ xs. in_order xs) (from_twice (floor past) (floor past) (decoded codec past) (omega arith))
 
-  held_step : (b : Bool) (past : List (Call S)) (e : FragmentFields) (moment : ℕ) (ack : Ack) → ltb e.number (floor past) ≡ b → e.floor ≤ e.number → held codec (Deliver (Ok (FragmentMessage e)) moment (Taken ack) ∷ past) ≡ not_below (max e.floor (floor past)) (held codec past)
+  held_step : (b : Bool) (past : List (ReceiverCall S)) (e : FragmentFields) (moment : ℕ) (ack : Ack) → ltb e.number (floor past) ≡ b → e.floor ≤ e.number → held codec (Deliver (Ok (FragmentMessage e)) moment (Taken ack) ∷ past) ≡ not_below (max e.floor (floor past)) (held codec past)
   held_step true past e moment ack h low =
       let a : e.number < floor past = ltb-true _ _ h in
       let same : floor past ≡ max e.floor (floor past) = omega arith in
       held_stale codec past e moment ack a ∙ (sym (held_again past) ∙ ap (λ k. not_below k (held codec past)) same)
   held_step false past e moment ack h low = held_raised codec past e moment ack (ltb-false _ _ h)
 
-  held_entered : (past : List (Call S)) (e : FragmentFields) (moment : ℕ) (ack : Ack) → e.floor ≤ e.number → held codec (Deliver (Ok (FragmentMessage e)) moment (Taken ack) ∷ past) ≡ not_below (max e.floor (floor past)) (held codec past)
+  held_entered : (past : List (ReceiverCall S)) (e : FragmentFields) (moment : ℕ) (ack : Ack) → e.floor ≤ e.number → held codec (Deliver (Ok (FragmentMessage e)) moment (Taken ack) ∷ past) ≡ not_below (max e.floor (floor past)) (held codec past)
   held_entered past e moment ack low = held_step (ltb e.number (floor past)) past e moment ack refl low
 
-  pub record AreAfter (past : List (Call S)) (e : FragmentFields) (moment : ℕ) (ack : Ack) (fs : List (PendingFrame S)) : Type 0 where
+  pub record AreAfter (past : List (ReceiverCall S)) (e : FragmentFields) (moment : ℕ) (ack : Ack) (fs : List (PendingFrame S)) : Type 0 where
     pub order : Rises 0 fs
     pub frames : (n : ℕ) → at n fs ≡ pending codec (Deliver (Ok (FragmentMessage e)) moment (Taken ack) ∷ past) n
 
-  module _ (r : ReceiverState S) (past : List (Call S)) (e : FragmentFields) (moment : ℕ) (ack : Ack) (s : Stands codec r past) (is : IsFragment e) (none : clash_with_taken (taken past) e ≡ None) where
+  module _ (r : ReceiverState S) (past : List (ReceiverCall S)) (e : FragmentFields) (moment : ℕ) (ack : Ack) (s : ReceiverStands codec r past) (is : IsFragment e) (none : clash_with_taken (taken past) e ≡ None) where
     abbrev high : ℕ
     high = max e.floor (floor past)
 
@@ -99,8 +99,8 @@ module _ {S : Type 0} (codec : Coding S) where
     frames_after = after_low (ltb e.number (floor past)) refl
 
   -- a fragment that is taken
-  pub entered_stands : (r r' : ReceiverState S) (past : List (Call S)) (e : FragmentFields) (moment : ℕ) (ack : Ack) → Stands codec r past → IsFragment e → refusal (session past) (head past) (taken past) e ≡ None → IsEntered codec.initial r r' e moment (taken past) → ack ≡ ack_saying e.session r'.known.gap r'.store.kept
-      → Answers codec (Deliver (Ok (FragmentMessage e)) moment (Taken ack)) past × Stands codec r' (Deliver (Ok (FragmentMessage e)) moment (Taken ack) ∷ past)
+  pub entered_stands : (r r' : ReceiverState S) (past : List (ReceiverCall S)) (e : FragmentFields) (moment : ℕ) (ack : Ack) → ReceiverStands codec r past → IsFragment e → refusal (session past) (head past) (taken past) e ≡ None → IsEntered codec.initial r r' e moment (taken past) → ack ≡ ack_saying e.session r'.known.gap r'.store.kept
+      → ReceiverAnswers codec (Deliver (Ok (FragmentMessage e)) moment (Taken ack)) past × ReceiverStands codec r' (Deliver (Ok (FragmentMessage e)) moment (Taken ack) ∷ past)
   unfolding gap_after
   entered_stands r r' past e moment ack s is none into acks =
       let like : clash_with_taken (taken past) e ≡ None = clash_none (clash_with_taken (taken past) e) (first_parts _ _ (first_parts _ _ none).1).1 in

@@ -10,11 +10,11 @@ use Rattle.sal_receiver.specs.declared.pending_frame.Stage.{Stage}
 use Rattle.sal_receiver.specs.declared.pending_frame.Stage.TheVariants as stages
 use Rattle.sal_receiver.specs.declared.pending_frame.PendingFrame.{PendingFrame}
 use Rattle.sal_receiver.specs.declared.pending_frame.DecodeTask.{DecodeTask}
-use Rattle.sal_receiver.specs.Past.{Call, TakeReady, taken}
-use Rattle.sal_receiver.specs.Ready.{ready_source, frame, source_name, target_name, is_ready, is_out, is_decided, least, take_answer}
+use Rattle.sal_receiver.specs.Past.{ReceiverCall, TakeReady, taken}
+use Rattle.sal_receiver.specs.Ready.{ready_source, frame, source_name, target_name, is_ready, is_out, is_decided, least, ready_answer}
 use Rattle.sal_receiver.specs.Handed.{HandedFrame, IsReadyFrame, number_of, handed_as}
 use Rattle.sal_receiver.specs.Pending.{at, frame_unshared, first_ready, is_ready_stage, handed_out, out_first, task_in, Rises}
-use Rattle.sal_receiver.specs.Machine.{ReceiverState, Stands, pending, pending_as, stage_of}
+use Rattle.sal_receiver.specs.Machine.{ReceiverState, ReceiverStands, pending, pending_as, stage_of}
 use Rattle.sal_receiver.proofs.BookLemmas.{book}
 use Rattle.sal_receiver.proofs.FrameLemmas.{staged, at_below}
 use Rattle.sal_receiver.proofs.LeastLemmas.{least_is, none_is, filter_has, has_filter}
@@ -142,11 +142,11 @@ module _ {S : Type 0} (codec : Coding S) where
   waits_case false false false None n source target bytes = refl
   waits_case false false complete (Some s) n source target bytes = refl
 
-  pub waits_is : (past : List (Call S)) (n : ℕ) → waits_at (pending codec past n) ≡ is_ready codec past n
+  pub waits_is : (past : List (ReceiverCall S)) (n : ℕ) → waits_at (pending codec past n) ≡ is_ready codec past n
   waits_is past n = waits_case (is_out past n) (is_decided past n) (is_complete (taken past) n) (ready_source codec past n) n (source_name past n) (target_name past n) (frame past n)
 
   -- what is handed out is the frame of its number
-  record IsGiven (past : List (Call S)) (t : DecodeTask S) : Type 0 where
+  record IsGiven (past : List (ReceiverCall S)) (t : DecodeTask S) : Type 0 where
     source : ready_source codec past t.number ≡ Some t.source
     target : target_name past t.number ≡ t.target.0
     bytes : frame past t.number ≡ t.bytes
@@ -158,7 +158,7 @@ module _ {S : Type 0} (codec : Coding S) where
   number_case false false true None n source target bytes p h = cc
   number_case false false false None n source target bytes p h = absurd (cc)
 
-  at_number : (past : List (Call S)) (n : ℕ) (p : PendingFrame S) → pending codec past n ≡ Some p → p.number ≡ n
+  at_number : (past : List (ReceiverCall S)) (n : ℕ) (p : PendingFrame S) → pending codec past n ≡ Some p → p.number ≡ n
   at_number past n p h = number_case (is_out past n) (is_decided past n) (is_complete (taken past) n) (ready_source codec past n) n (source_name past n) (target_name past n) (frame past n) p h
 
   -- the frame that waits, and what is handed out of it
@@ -171,11 +171,11 @@ module _ {S : Type 0} (codec : Coding S) where
   given_case false false true None n source target bytes p e w = absurd (let q : p ≡ pending_as n source target (stages.Complete bytes) = cc in let z : is_ready_stage p.stage ≡ false = ap (λ (x : PendingFrame S). is_ready_stage x.stage) q in (let y : true ≡ false = sym w ∙ z in cc))
   given_case false false false None n source target bytes p e w = absurd (cc)
 
-  some_waits : (past : List (Call S)) (n : ℕ) → is_ready codec past n ≡ true → Has (map (λ (e : FragmentFields). e.number) (taken past)) n
+  some_waits : (past : List (ReceiverCall S)) (n : ℕ) → is_ready codec past n ≡ true → Has (map (λ (e : FragmentFields). e.number) (taken past)) n
   some_waits past n w = ready_taken codec past n (waits_parts codec (is_some (ready_source codec past n)) (is_out past n) (is_decided past n) w).0
 
   -- the least that waits by the calls is the first that waits in the list
-  answer_some : (r : ReceiverState S) (past : List (Call S)) (p : PendingFrame S) → Stands codec r past → first_ready r.frames ≡ Some p → Some p.number ≡ take_answer codec past
+  answer_some : (r : ReceiverState S) (past : List (ReceiverCall S)) (p : PendingFrame S) → ReceiverStands codec r past → first_ready r.frames ≡ Some p → Some p.number ≡ ready_answer codec past
   answer_some r past p s h =
       let there : at p.number r.frames ≡ Some p = first_at 0 p r.frames s.order h in
       let w : is_ready codec past p.number ≡ true = sym (waits_is past p.number) ∙ (ap (λ o. waits_at o) (sym (s.frames p.number) ∙ there) ∙ first_waits p r.frames h) in
@@ -183,7 +183,7 @@ module _ {S : Type 0} (codec : Coding S) where
       (has_filter (is_ready codec past) (map (λ (e : FragmentFields). e.number) (taken past)) p.number w (some_waits past p.number w))
       (λ k has. first_least 0 k p r.frames s.order h (ap (λ o. waits_at o) (s.frames k) ∙ (waits_is past k ∙ (filter_has (is_ready codec past) (map (λ (e : FragmentFields). e.number) (taken past)) k has).0))))
 
-  answer_none : (r : ReceiverState S) (past : List (Call S)) → Stands codec r past → first_ready r.frames ≡ None → None ≡ take_answer codec past
+  answer_none : (r : ReceiverState S) (past : List (ReceiverCall S)) → ReceiverStands codec r past → first_ready r.frames ≡ None → None ≡ ready_answer codec past
   answer_none r past s h =
       sym (none_is (filter (is_ready codec past) (map (λ (e : FragmentFields). e.number) (taken past)))
       (λ k has.
@@ -195,31 +195,31 @@ module _ {S : Type 0} (codec : Coding S) where
   abbrev pub after_take : ReceiverState S → ReceiverState S
   after_take r = book r.known r.slots r.store (out_first r.frames) r.last
 
-  some_stands : (r : ReceiverState S) (past : List (Call S)) (p : PendingFrame S) → Stands codec r past → first_ready r.frames ≡ Some p → Stands codec (after_take r) (TakeReady (Some p.number) ∷ past)
+  some_stands : (r : ReceiverState S) (past : List (ReceiverCall S)) (p : PendingFrame S) → ReceiverStands codec r past → first_ready r.frames ≡ Some p → ReceiverStands codec (after_take r) (TakeReady (Some p.number) ∷ past)
   some_stands r past p s h =
-      let answer : Some p.number ≡ take_answer codec past = answer_some r past p s h in
+      let answer : Some p.number ≡ ready_answer codec past = answer_some r past p s h in
       let there : at p.number r.frames ≡ Some p = first_at 0 p r.frames s.order h in
       let w : is_ready codec past p.number ≡ true = sym (waits_is past p.number) ∙ (ap (λ o. waits_at o) (sym (s.frames p.number) ∙ there) ∙ first_waits p r.frames h) in
       stands_calm codec r (out_first r.frames) r.store.kept r.last (TakeReady (Some p.number)) past s answer refl refl refl refl refl s.kept s.last (rises_out 0 r.frames s.order)
       (λ n. at_out 0 n p r.frames s.order h ∙ (ap (λ o. cond (eqb p.number n) (option_map (staged stages.Decoding) o) o) (s.frames n) ∙ sym (took codec past p.number n w)))
 
-  none_stands : (r : ReceiverState S) (past : List (Call S)) → Stands codec r past → first_ready r.frames ≡ None → Stands codec (after_take r) (TakeReady None ∷ past)
+  none_stands : (r : ReceiverState S) (past : List (ReceiverCall S)) → ReceiverStands codec r past → first_ready r.frames ≡ None → ReceiverStands codec (after_take r) (TakeReady None ∷ past)
   none_stands r past s h =
       stands_calm codec r (out_first r.frames) r.store.kept r.last (TakeReady None) past s (answer_none r past s h) refl refl refl refl refl s.kept s.last (rises_out 0 r.frames s.order)
       (λ n. ap (λ xs. at n xs) (out_same r.frames h) ∙ (s.frames n ∙ sym (quiet codec (TakeReady None) past n refl refl refl refl)))
 
   -- what was handed out, seen as what the calls say of it
-  task_case : (r : ReceiverState S) (past : List (Call S)) (p : PendingFrame S) → Stands codec r past → first_ready r.frames ≡ Some p → (h : S) × (ready_source codec past p.number ≡ Some h) × (task_in (Some p) ≡ Some (record { number = p.number; target = record { 0 = target_name past p.number }; source = h; bytes = frame past p.number }))
+  task_case : (r : ReceiverState S) (past : List (ReceiverCall S)) (p : PendingFrame S) → ReceiverStands codec r past → first_ready r.frames ≡ Some p → (h : S) × (ready_source codec past p.number ≡ Some h) × (task_in (Some p) ≡ Some (record { number = p.number; target = record { 0 = target_name past p.number }; source = h; bytes = frame past p.number }))
   task_case r past p s h =
       given_case (is_out past p.number) (is_decided past p.number) (is_complete (taken past) p.number) (ready_source codec past p.number) p.number (source_name past p.number) (target_name past p.number) (frame past p.number) p
       (sym (s.frames p.number) ∙ first_at 0 p r.frames s.order h) (first_waits p r.frames h)
 
-  pub record IsTaking (r : ReceiverState S) (past : List (Call S)) (given : Option (HandedFrame S)) : Type 0 where
-    pub answer : option_map number_of given ≡ take_answer codec past
-    pub stands : Stands codec (after_take r) (TakeReady (option_map number_of given) ∷ past)
+  pub record IsTaking (r : ReceiverState S) (past : List (ReceiverCall S)) (given : Option (HandedFrame S)) : Type 0 where
+    pub answer : option_map number_of given ≡ ready_answer codec past
+    pub stands : ReceiverStands codec (after_take r) (TakeReady (option_map number_of given) ∷ past)
     pub frame_is : IfSome given (IsReadyFrame codec past)
 
-  take_step : (r : ReceiverState S) (past : List (Call S)) (o : Option (PendingFrame S)) → Stands codec r past → first_ready r.frames ≡ o → IsTaking r past (option_map task_handed (task_in o))
+  take_step : (r : ReceiverState S) (past : List (ReceiverCall S)) (o : Option (PendingFrame S)) → ReceiverStands codec r past → first_ready r.frames ≡ o → IsTaking r past (option_map task_handed (task_in o))
   take_step r past None s h = record { answer = answer_none r past s h; stands = none_stands r past s h; frame_is = tt }
   take_step r past (Some p) s h =
       let given = task_case r past p s h in
@@ -231,19 +231,19 @@ module _ {S : Type 0} (codec : Coding S) where
       })
 
   -- whatever is handed out, the receiver stands for it
-  pub taking : (r : ReceiverState S) (past : List (Call S)) → Stands codec r past → IsTaking r past (option_map task_handed (task_in (first_ready r.frames)))
+  pub taking : (r : ReceiverState S) (past : List (ReceiverCall S)) → ReceiverStands codec r past → IsTaking r past (option_map task_handed (task_in (first_ready r.frames)))
   taking r past s = take_step r past (first_ready r.frames) s refl
 
-  pub take_is : {Z : Type 0} (r : ReceiverState S) (known : Rattle.sal_receiver.specs.declared.session_state.SessionState.SessionState) (slots : Rattle.sal_reasm.specs.SlotTable.SlotTable) (store : Rattle.sal_chain.specs.StateTable.StateTable S) (items new : List (PendingFrame (Arc S Z))) (last : ℕ) (past : List (Call S)) (task : Option (DecodeTask (Arc S Z))) (result : Option (HandedFrame S)) → book known slots store (map frame_unshared items) last ≡ r → Stands codec r past → task ≡ task_in (first_ready items) → new ≡ out_first items → result ≡ option_map handed_as task
-      → ((option_map number_of result ≡ take_answer codec past) × Stands codec (book known slots store (map frame_unshared new) last) (TakeReady (option_map number_of result) ∷ past)) × IfSome result (IsReadyFrame codec past)
+  pub take_is : {Z : Type 0} (r : ReceiverState S) (known : Rattle.sal_receiver.specs.declared.session_state.SessionState.SessionState) (slots : Rattle.sal_reasm.specs.SlotTable.SlotTable) (store : Rattle.sal_chain.specs.StateTable.StateTable S) (items new : List (PendingFrame (Arc S Z))) (last : ℕ) (past : List (ReceiverCall S)) (task : Option (DecodeTask (Arc S Z))) (result : Option (HandedFrame S)) → book known slots store (map frame_unshared items) last ≡ r → ReceiverStands codec r past → task ≡ task_in (first_ready items) → new ≡ out_first items → result ≡ option_map handed_as task
+      → ((option_map number_of result ≡ ready_answer codec past) × ReceiverStands codec (book known slots store (map frame_unshared new) last) (TakeReady (option_map number_of result) ∷ past)) × IfSome result (IsReadyFrame codec past)
   take_is r known slots store items new last past task result view s a b c =
       let given : result ≡ option_map task_handed (task_in (first_ready (map frame_unshared items))) =
       c ∙ (ap (λ o. option_map handed_as o) a ∙ (task_seen (first_ready items) ∙ ap (λ o. option_map task_handed (task_in o)) (sym (first_seen items)))) in
       let is : IsTaking (book known slots store (map frame_unshared items) last) past result =
-      subst (λ (o : Option (HandedFrame S)). IsTaking (book known slots store (map frame_unshared items) last) past o) (sym given) (taking (book known slots store (map frame_unshared items) last) past (subst (λ (b : ReceiverState S). Stands codec b past) (sym view) s)) in (
+      subst (λ (o : Option (HandedFrame S)). IsTaking (book known slots store (map frame_unshared items) last) past o) (sym given) (taking (book known slots store (map frame_unshared items) last) past (subst (λ (b : ReceiverState S). ReceiverStands codec b past) (sym view) s)) in (
         (
           is.answer,
-          subst (λ (xs : List (PendingFrame S)). Stands codec (book known slots store xs last) (TakeReady (option_map number_of result) ∷ past)) (sym (ap (λ xs. map frame_unshared xs) b ∙ out_seen items)) is.stands,
+          subst (λ (xs : List (PendingFrame S)). ReceiverStands codec (book known slots store xs last) (TakeReady (option_map number_of result) ∷ past)) (sym (ap (λ xs. map frame_unshared xs) b ∙ out_seen items)) is.stands,
         ),
         is.frame_is,
       )
@@ -259,5 +259,5 @@ module _ {S : Type 0} (codec : Coding S) where
       ap (λ xs. book known slots store (map frame_unshared xs) last) (same (no_task task result is none)) ∙ view
 
   -- what was handed out is the frame of its number after that call too
-  pub frame_handed : (past : List (Call S)) (answer : Option ℕ) (h : HandedFrame S) → IsReadyFrame codec past h → IsReadyFrame codec (TakeReady answer ∷ past) h
+  pub frame_handed : (past : List (ReceiverCall S)) (answer : Option ℕ) (h : HandedFrame S) → IsReadyFrame codec past h → IsReadyFrame codec (TakeReady answer ∷ past) h
   frame_handed past answer h is = record { target = is.target; source = Rattle.sal_receiver.proofs.Lasting.ready_same codec (TakeReady answer) past h.number refl refl ∙ is.source; bytes = is.bytes }

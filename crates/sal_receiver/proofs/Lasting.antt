@@ -12,8 +12,9 @@ use Rattle.sal_chain.specs.Held.{inserted, not_below, with_name}
 use Rattle.sal_receiver.specs.declared.answers.Done.TheVariants.{Returned}
 use Rattle.sal_receiver.specs.declared.pending_frame.Stage.TheVariants as stages
 use Rattle.sal_receiver.specs.declared.pending_frame.PendingFrame.{PendingFrame}
-use Rattle.sal_receiver.specs.Past.{Call, TakeReady, Decoding, DecodeResult, taken, floor}
-use Rattle.sal_receiver.specs.Held.{zero_name, name_in, kept_as, held, state_among}
+use Rattle.sal_receiver.specs.Past.{ReceiverCall, TakeReady, Decoding, DecodeResult, taken, floor}
+use Rattle.sal_chain.specs.Held.{name_in}
+use Rattle.sal_receiver.specs.Held.{zero_name, kept_as, held, state_among}
 use Rattle.sal_receiver.specs.Ready.{source_in, target_in, source_now, ready_source, frame, is_ready, is_out, is_decided}
 use Rattle.sal_receiver.specs.Pending.{fed_one}
 use Rattle.sal_receiver.specs.Machine.{stage_of, pending_as, new_stage, pending}
@@ -83,19 +84,19 @@ module _ {S : Type 0} (codec : Coding S) where
   pending_of out decided ready_source es n = option_map (pending_as n (source_in (fragments_of n es)) (target_in (fragments_of n es))) (stage_of out decided ready_source (is_complete es n) (frame_bytes es n))
 
   -- what is ready by now is ready
-  pub settled : (past : List (Call S)) (n : ℕ) → or_else (ready_source codec past n) (source_now codec past n) ≡ ready_source codec past n
+  pub settled : (past : List (ReceiverCall S)) (n : ℕ) → or_else (ready_source codec past n) (source_now codec past n) ≡ ready_source codec past n
   unfolding ready_source
   settled [] n = never (leb 1 n) (state_among codec.initial [] [])
   settled (call ∷ past) n = again (ready_source codec past n) (source_now codec (call ∷ past) n)
 
-  pub settled_none : (past : List (Call S)) (n : ℕ) → ready_source codec past n ≡ None → source_of (taken past) (held codec past) n ≡ None
+  pub settled_none : (past : List (ReceiverCall S)) (n : ℕ) → ready_source codec past n ≡ None → source_of (taken past) (held codec past) n ≡ None
   settled_none past n h = right_none (ready_source codec past n) (source_now codec past n) (settled past n) h
 
-  pub ready_next : (call : Call S) (past : List (Call S)) (n : ℕ) → ready_source codec (call ∷ past) n ≡ or_else (ready_source codec past n) (source_of (taken (call ∷ past)) (held codec (call ∷ past)) n)
+  pub ready_next : (call : ReceiverCall S) (past : List (ReceiverCall S)) (n : ℕ) → ready_source codec (call ∷ past) n ≡ or_else (ready_source codec past n) (source_of (taken (call ∷ past)) (held codec (call ∷ past)) n)
   unfolding ready_source
   ready_next call past n = refl
 
-  pub ready_same : (call : Call S) (past : List (Call S)) (n : ℕ) → taken (call ∷ past) ≡ taken past → held codec (call ∷ past) ≡ held codec past → ready_source codec (call ∷ past) n ≡ ready_source codec past n
+  pub ready_same : (call : ReceiverCall S) (past : List (ReceiverCall S)) (n : ℕ) → taken (call ∷ past) ≡ taken past → held codec (call ∷ past) ≡ held codec past → ready_source codec (call ∷ past) n ≡ ready_source codec past n
   ready_same call past n a b =
       ready_next call past n
       ∙ (ap (λ es. or_else (ready_source codec past n) (source_of es (held codec (call ∷ past)) n)) a
@@ -107,7 +108,7 @@ module _ {S : Type 0} (codec : Coding S) where
   pending_equal out out' decided decided' r r' es es' n a b c d =
       ap (λ x. pending_of x decided r es n) a ∙ (ap (λ x. pending_of out' x r es n) b ∙ (ap (λ x. pending_of out' decided' x es n) c ∙ ap (λ x. pending_of out' decided' r' x n) d))
 
-  pub quiet : (call : Call S) (past : List (Call S)) (n : ℕ) → taken (call ∷ past) ≡ taken past → held codec (call ∷ past) ≡ held codec past → is_out (call ∷ past) n ≡ is_out past n → is_decided (call ∷ past) n ≡ is_decided past n → pending codec (call ∷ past) n ≡ pending codec past n
+  pub quiet : (call : ReceiverCall S) (past : List (ReceiverCall S)) (n : ℕ) → taken (call ∷ past) ≡ taken past → held codec (call ∷ past) ≡ held codec past → is_out (call ∷ past) n ≡ is_out past n → is_decided (call ∷ past) n ≡ is_decided past n → pending codec (call ∷ past) n ≡ pending codec past n
   quiet call past n a b c d =
       pending_equal (is_out (call ∷ past) n) (is_out past n) (is_decided (call ∷ past) n) (is_decided past n) (ready_source codec (call ∷ past) n) (ready_source codec past n) (taken (call ∷ past)) (taken past) n c d (ready_same call past n a b) a
 
@@ -121,13 +122,13 @@ module _ {S : Type 0} (codec : Coding S) where
   waiting_out false false None es n h = absurd (cc)
   waiting_out false false (Some s) es n h = refl
 
-  took_step : (b : Bool) (past : List (Call S)) (m n : ℕ) → eqb m n ≡ b → is_ready codec past m ≡ true → pending_of (b || is_out past n) (is_decided past n) (ready_source codec past n) (taken past) n ≡ cond b (option_map (staged stages.Decoding) (pending codec past n)) (pending codec past n)
+  took_step : (b : Bool) (past : List (ReceiverCall S)) (m n : ℕ) → eqb m n ≡ b → is_ready codec past m ≡ true → pending_of (b || is_out past n) (is_decided past n) (ready_source codec past n) (taken past) n ≡ cond b (option_map (staged stages.Decoding) (pending codec past n)) (pending codec past n)
   took_step true past m n e w =
       let is : m ≡ n = eqb-true _ _ e in
       waiting_out (is_out past n) (is_decided past n) (ready_source codec past n) (taken past) n (subst (λ (x : ℕ). is_ready codec past x ≡ true) is w)
   took_step false past m n e w = refl
 
-  pub took : (past : List (Call S)) (m n : ℕ) → is_ready codec past m ≡ true → pending codec (TakeReady (Some m) ∷ past) n ≡ cond (eqb m n) (option_map (staged stages.Decoding) (pending codec past n)) (pending codec past n)
+  pub took : (past : List (ReceiverCall S)) (m n : ℕ) → is_ready codec past m ≡ true → pending codec (TakeReady (Some m) ∷ past) n ≡ cond (eqb m n) (option_map (staged stages.Decoding) (pending codec past n)) (pending codec past n)
   took past m n w =
       ap (λ r. pending_of (eqb m n || is_out past n) (is_decided past n) r (taken past) n) (ready_same (TakeReady (Some m)) past n refl refl)
       ∙ took_step (eqb m n) past m n refl w
@@ -140,24 +141,24 @@ module _ {S : Type 0} (codec : Coding S) where
   back_step true true r source es n a b c = absurd (cc)
   back_step false decided r source es n a b c = absurd (cc)
 
-  returned_step : (b : Bool) (past : List (Call S)) (m n : ℕ) (source : S) → eqb m n ≡ b → is_out past m ≡ true → is_decided past m ≡ false → ready_source codec past m ≡ Some source → pending_of (not b && is_out past n) (is_decided past n) (ready_source codec past n) (taken past) n ≡ cond b (option_map (staged (stages.Ready source (frame past m))) (pending codec past n)) (pending codec past n)
+  returned_step : (b : Bool) (past : List (ReceiverCall S)) (m n : ℕ) (source : S) → eqb m n ≡ b → is_out past m ≡ true → is_decided past m ≡ false → ready_source codec past m ≡ Some source → pending_of (not b && is_out past n) (is_decided past n) (ready_source codec past n) (taken past) n ≡ cond b (option_map (staged (stages.Ready source (frame past m))) (pending codec past n)) (pending codec past n)
   returned_step true past m n source e out undecided is =
       subst (λ (x : ℕ). pending_of false (is_decided past x) (ready_source codec past x) (taken past) x ≡ option_map (staged (stages.Ready source (frame past m))) (pending codec past x)) (eqb-true m n e)
       (back_step (is_out past m) (is_decided past m) (ready_source codec past m) source (taken past) m out undecided is)
   returned_step false past m n source e out undecided is = refl
 
-  pub returned : (past : List (Call S)) (m n k : ℕ) (outcome : DecodeResult S) (source : S) → held codec (Decoding m outcome (Returned k) ∷ past) ≡ held codec past → is_out past m ≡ true → is_decided past m ≡ false → ready_source codec past m ≡ Some source → pending codec (Decoding m outcome (Returned k) ∷ past) n ≡ cond (eqb m n) (option_map (staged (stages.Ready source (frame past m))) (pending codec past n)) (pending codec past n)
+  pub returned : (past : List (ReceiverCall S)) (m n k : ℕ) (outcome : DecodeResult S) (source : S) → held codec (Decoding m outcome (Returned k) ∷ past) ≡ held codec past → is_out past m ≡ true → is_decided past m ≡ false → ready_source codec past m ≡ Some source → pending codec (Decoding m outcome (Returned k) ∷ past) n ≡ cond (eqb m n) (option_map (staged (stages.Ready source (frame past m))) (pending codec past n)) (pending codec past n)
   returned past m n k outcome source same_held out undecided is =
       ap (λ r. pending_of (not (eqb m n) && is_out past n) (is_decided past n) r (taken past) n) (ready_same (Decoding m outcome (Returned k)) past n refl same_held)
       ∙ returned_step (eqb m n) past m n source refl out undecided is
 
   -- ---- a decoding that decides its number
 
-  gone_step : (b : Bool) (past : List (Call S)) (n : ℕ) → pending_of (not b && is_out past n) (b || is_decided past n) (ready_source codec past n) (taken past) n ≡ cond b None (pending codec past n)
+  gone_step : (b : Bool) (past : List (ReceiverCall S)) (n : ℕ) → pending_of (not b && is_out past n) (b || is_decided past n) (ready_source codec past n) (taken past) n ≡ cond b None (pending codec past n)
   gone_step true past n = refl
   gone_step false past n = refl
 
-  pub gone : (call : Call S) (past : List (Call S)) (m n : ℕ) → taken (call ∷ past) ≡ taken past → held codec (call ∷ past) ≡ held codec past → is_out (call ∷ past) n ≡ (not (eqb m n) && is_out past n) → is_decided (call ∷ past) n ≡ (eqb m n || is_decided past n) → pending codec (call ∷ past) n ≡ cond (eqb m n) None (pending codec past n)
+  pub gone : (call : ReceiverCall S) (past : List (ReceiverCall S)) (m n : ℕ) → taken (call ∷ past) ≡ taken past → held codec (call ∷ past) ≡ held codec past → is_out (call ∷ past) n ≡ (not (eqb m n) && is_out past n) → is_decided (call ∷ past) n ≡ (eqb m n || is_decided past n) → pending codec (call ∷ past) n ≡ cond (eqb m n) None (pending codec past n)
   gone call past m n a b c d =
       pending_equal (is_out (call ∷ past) n) (not (eqb m n) && is_out past n) (is_decided (call ∷ past) n) (eqb m n || is_decided past n) (ready_source codec (call ∷ past) n) (ready_source codec past n) (taken (call ∷ past)) (taken past) n c d (ready_same call past n a b) a
       ∙ gone_step (eqb m n) past n
@@ -193,14 +194,14 @@ module _ {S : Type 0} (codec : Coding S) where
   fed_case false false true None found found' name state n source target bytes a b =
       ap (λ o. option_map (pending_as n source target) (stage_of false false o true bytes)) (b (a refl)) ∙ fed_whole (same name source) state n source target bytes
 
-  fed_step : (b : Bool) (past : List (Call S)) (m n : ℕ) (state : S) → pending_of (not b && is_out past n) (b || is_decided past n) (or_else (ready_source codec past n) (source_of (taken past) (inserted (kept_as codec m state) (held codec past)) n)) (taken past) n ≡ cond b None (option_map (fed_one (name_in codec state) state) (pending codec past n))
+  fed_step : (b : Bool) (past : List (ReceiverCall S)) (m n : ℕ) (state : S) → pending_of (not b && is_out past n) (b || is_decided past n) (or_else (ready_source codec past n) (source_of (taken past) (inserted (kept_as codec m state) (held codec past)) n)) (taken past) n ≡ cond b None (option_map (fed_one (name_in codec state) state) (pending codec past n))
   fed_step true past m n state = refl
   fed_step false past m n state =
       let source = source_in (fragments_of n (taken past)) in
       fed_case (is_out past n) (is_decided past n) (is_complete (taken past) n) (ready_source codec past n) (state_among codec.initial source (held codec past)) (state_among codec.initial source (inserted (kept_as codec m state) (held codec past))) (name_in codec state) state n source (target_in (fragments_of n (taken past))) (frame_bytes (taken past) n)
       (settled_none past n) (new_under source (kept_as codec m state) (held codec past))
 
-  pub fed_next : (call : Call S) (past : List (Call S)) (m n : ℕ) (state : S) → taken (call ∷ past) ≡ taken past → held codec (call ∷ past) ≡ inserted (kept_as codec m state) (held codec past) → is_out (call ∷ past) n ≡ (not (eqb m n) && is_out past n) → is_decided (call ∷ past) n ≡ (eqb m n || is_decided past n)
+  pub fed_next : (call : ReceiverCall S) (past : List (ReceiverCall S)) (m n : ℕ) (state : S) → taken (call ∷ past) ≡ taken past → held codec (call ∷ past) ≡ inserted (kept_as codec m state) (held codec past) → is_out (call ∷ past) n ≡ (not (eqb m n) && is_out past n) → is_decided (call ∷ past) n ≡ (eqb m n || is_decided past n)
       → pending codec (call ∷ past) n ≡ cond (eqb m n) None (option_map (fed_one (name_in codec state) state) (pending codec past n))
   fed_next call past m n state a b c d =
       pending_equal (is_out (call ∷ past) n) (not (eqb m n) && is_out past n) (is_decided (call ∷ past) n) (eqb m n || is_decided past n) (ready_source codec (call ∷ past) n) (or_else (ready_source codec past n) (source_of (taken past) (inserted (kept_as codec m state) (held codec past)) n)) (taken (call ∷ past)) (taken past) n c d
@@ -244,7 +245,7 @@ module _ {S : Type 0} (codec : Coding S) where
       (left_case out decided (has_all old) (leb low n) (leb high n) r (state_among codec.initial (source_in old) kept) (state_among codec.initial (source_in old) (not_below high kept)) n high (source_in old) (target_in old) (reassembled old) refl
       (λ (q : leb high n ≡ true). le-leb low n (let a : high ≤ n = leb-true _ _ q in omega arith)) h (shrunk (source_in old) high kept))
 
-  pub left_next : (call : Call S) (past : List (Call S)) (e : FragmentFields) (n : ℕ) → taken (call ∷ past) ≡ e ∷ taken past → held codec (call ∷ past) ≡ not_below (max e.floor (floor past)) (held codec past) → is_out (call ∷ past) n ≡ is_out past n → is_decided (call ∷ past) n ≡ is_decided past n → IsSame (fragments_of n (e ∷ taken past)) (fragments_of n (taken past))
+  pub left_next : (call : ReceiverCall S) (past : List (ReceiverCall S)) (e : FragmentFields) (n : ℕ) → taken (call ∷ past) ≡ e ∷ taken past → held codec (call ∷ past) ≡ not_below (max e.floor (floor past)) (held codec past) → is_out (call ∷ past) n ≡ is_out past n → is_decided (call ∷ past) n ≡ is_decided past n → IsSame (fragments_of n (e ∷ taken past)) (fragments_of n (taken past))
       → pending codec (call ∷ past) n ≡ if_left (max e.floor (floor past)) (pending codec past n)
   left_next call past e n a b c d same_parts =
       pending_equal (is_out (call ∷ past) n) (is_out past n) (is_decided (call ∷ past) n) (is_decided past n) (ready_source codec (call ∷ past) n) (or_else (ready_source codec past n) (source_of (e ∷ taken past) (not_below (max e.floor (floor past)) (held codec past)) n)) (taken (call ∷ past)) (e ∷ taken past) n c d
@@ -262,7 +263,7 @@ module _ {S : Type 0} (codec : Coding S) where
   left_again false false false true None n floor source target bytes e = refl
   left_again false false false false None n floor source target bytes e = refl
 
-  pub left_same : (past : List (Call S)) (n : ℕ) → pending codec past n ≡ if_left (floor past) (pending codec past n)
+  pub left_same : (past : List (ReceiverCall S)) (n : ℕ) → pending codec past n ≡ if_left (floor past) (pending codec past n)
   left_same past n = left_again (is_out past n) (is_decided past n) (has_all (fragments_of n (taken past))) (leb (floor past) n) (ready_source codec past n) n (floor past) (source_in (fragments_of n (taken past))) (target_in (fragments_of n (taken past))) (frame_bytes (taken past) n) refl
 
   -- ---- a fragment of a number that wasn't complete
@@ -273,7 +274,7 @@ module _ {S : Type 0} (codec : Coding S) where
   new_case false found n source target bytes = refl
 
   -- it is complete now, or it isn't
-  pub new_next : (call : Call S) (past : List (Call S)) (e : FragmentFields) (n : ℕ) → taken (call ∷ past) ≡ e ∷ taken past → held codec (call ∷ past) ≡ not_below (max e.floor (floor past)) (held codec past) → is_out (call ∷ past) n ≡ false → is_decided (call ∷ past) n ≡ false → ready_source codec past n ≡ None
+  pub new_next : (call : ReceiverCall S) (past : List (ReceiverCall S)) (e : FragmentFields) (n : ℕ) → taken (call ∷ past) ≡ e ∷ taken past → held codec (call ∷ past) ≡ not_below (max e.floor (floor past)) (held codec past) → is_out (call ∷ past) n ≡ false → is_decided (call ∷ past) n ≡ false → ready_source codec past n ≡ None
       → pending codec (call ∷ past) n ≡ cond (is_complete (e ∷ taken past) n) (Some (pending_as n (source_in (fragments_of n (e ∷ taken past))) (target_in (fragments_of n (e ∷ taken past))) (new_stage (state_among codec.initial (source_in (fragments_of n (e ∷ taken past))) (not_below (max e.floor (floor past)) (held codec past))) (frame_bytes (e ∷ taken past) n)))) None
   new_next call past e n a b c d r =
       pending_equal (is_out (call ∷ past) n) false (is_decided (call ∷ past) n) false (ready_source codec (call ∷ past) n) (source_of (e ∷ taken past) (not_below (max e.floor (floor past)) (held codec past)) n) (taken (call ∷ past)) (e ∷ taken past) n c d

@@ -14,10 +14,10 @@ use Rattle.sal_reasm.specs.Stands.{AreNamed}
 use Rattle.sal_chain.specs.Held.{not_below}
 use Rattle.sal_receiver.specs.declared.answers.Delivered.TheVariants.{Taken}
 use Rattle.sal_receiver.specs.declared.pending_frame.PendingFrame.{PendingFrame}
-use Rattle.sal_receiver.specs.Past.{Call, Deliver, taken, floor}
+use Rattle.sal_receiver.specs.Past.{ReceiverCall, Deliver, taken, floor}
 use Rattle.sal_receiver.specs.Held.{held, state_among}
 use Rattle.sal_receiver.specs.Ready.{source_in, target_in, ready_source, is_out, is_decided}
-use Rattle.sal_receiver.specs.Promises.{IsLegal}
+use Rattle.sal_receiver.specs.Promises.{IsLegalReceiver}
 use Rattle.sal_receiver.specs.Pending.{at, frame_inserted, left_from, Rises}
 use Rattle.sal_receiver.specs.Machine.{pending, pending_as, stage_of, new_stage, new_pending}
 use Rattle.sal_receiver.proofs.FrameLemmas.{if_left, at_left, at_put, rises_left, rises_put}
@@ -60,8 +60,8 @@ pub offer_stale : (e : FragmentFields) (es : List FragmentFields) → e.number <
 offer_stale e es low = rw (lt-ltb e.number (floor_of es) low) refl
 
 module _ {S : Type 0} (codec : Coding S) where
-  module _ (past : List (Call S)) (e : FragmentFields) (moment : ℕ) (ack : Ack) (fs : List (PendingFrame S)) (legal : IsLegal codec past) (is : IsFragment e) (order : Rises 0 fs) (frames : (n : ℕ) → at n fs ≡ pending codec past n) where
-    abbrev call : Call S
+  module _ (past : List (ReceiverCall S)) (e : FragmentFields) (moment : ℕ) (ack : Ack) (fs : List (PendingFrame S)) (legal : IsLegalReceiver codec past) (is : IsFragment e) (order : Rises 0 fs) (frames : (n : ℕ) → at n fs ≡ pending codec past n) where
+    abbrev call : ReceiverCall S
     call = Deliver (Ok (FragmentMessage e)) moment (Taken ack)
 
     -- the floor after it

@@ -11,12 +11,12 @@ use Rattle.sal_receiver.specs.declared.answers.Delivered.TheVariants.{Taken, Ref
 use Rattle.sal_receiver.specs.declared.answers.Refuse.{Refuse}
 use Rattle.sal_receiver.specs.declared.session_state.SessionState.{SessionState}
 use Rattle.sal_receiver.specs.declared.pending_frame.PendingFrame.{PendingFrame}
-use Rattle.sal_receiver.specs.Past.{Call, Deliver, taken, session, head}
+use Rattle.sal_receiver.specs.Past.{ReceiverCall, Deliver, taken, session, head}
 use Rattle.sal_receiver.specs.Answers.{refusal, unless_refused, ack_saying, ack_after}
-use Rattle.sal_receiver.specs.Promises.{Answers, IsTaken}
+use Rattle.sal_receiver.specs.Promises.{ReceiverAnswers, IsTaken}
 use Rattle.sal_receiver.specs.Known.{nothing_known}
 use Rattle.sal_receiver.specs.Pending.{frame_unshared}
-use Rattle.sal_receiver.specs.Machine.{ReceiverState, Stands, IsEntered}
+use Rattle.sal_receiver.specs.Machine.{ReceiverState, ReceiverStands, IsEntered}
 use Rattle.sal_receiver.proofs.Was.{first_parts, clash_none}
 use Rattle.sal_receiver.proofs.Entered.{entered_stands}
 use Rattle.sal_wire.specs.declared.datagram.Ack.{Ack}
@@ -26,17 +26,17 @@ use Rattle.sal_receiver.proofs.BookLemmas.{book}
 use Rattle.sal_receiver.proofs.Standing.{stands_new, refused, without_memory}
 
 module _ {S : Type 0} (codec : Coding S) where
-  pub new_is : {Z : Type 0} (known : SessionState) (slots : SlotTable) (store : StateTable S) (items : List (PendingFrame (Arc S Z))) → known ≡ nothing_known → SlotsStand slots [] → store ≡ empty_table → items ≡ [] → Stands codec (book known slots store (map frame_unshared items) 0) []
+  pub new_is : {Z : Type 0} (known : SessionState) (slots : SlotTable) (store : StateTable S) (items : List (PendingFrame (Arc S Z))) → known ≡ nothing_known → SlotsStand slots [] → store ≡ empty_table → items ≡ [] → ReceiverStands codec (book known slots store (map frame_unshared items) 0) []
   new_is known slots store items a keeps b c =
-      subst (λ (l : SessionState). Stands codec (book l slots store (map frame_unshared items) 0) []) (sym a)
-      (subst (λ (s : StateTable S). Stands codec (book nothing_known slots s (map frame_unshared items) 0) []) (sym b)
-      (subst (λ (xs : List (PendingFrame (Arc S _))). Stands codec (book nothing_known slots empty_table (map frame_unshared xs) 0) []) (sym c) (stands_new codec slots keeps)))
+      subst (λ (l : SessionState). ReceiverStands codec (book l slots store (map frame_unshared items) 0) []) (sym a)
+      (subst (λ (s : StateTable S). ReceiverStands codec (book nothing_known slots s (map frame_unshared items) 0) []) (sym b)
+      (subst (λ (xs : List (PendingFrame (Arc S _))). ReceiverStands codec (book nothing_known slots empty_table (map frame_unshared xs) 0) []) (sym c) (stands_new codec slots keeps)))
 
   -- the cause that was found is that of the calls before
-  cause_is : (r : ReceiverState S) (e : FragmentFields) (past : List (Call S)) (o : Option Refuse) → Stands codec r past → o ≡ refusal r.known.session r.known.head (taken past) e → o ≡ refusal (session past) (head past) (taken past) e
+  cause_is : (r : ReceiverState S) (e : FragmentFields) (past : List (ReceiverCall S)) (o : Option Refuse) → ReceiverStands codec r past → o ≡ refusal r.known.session r.known.head (taken past) e → o ≡ refusal (session past) (head past) (taken past) e
   cause_is r e past o s h = h ∙ (ap (λ x. refusal x r.known.head (taken past) e) s.session ∙ ap (λ x. refusal (session past) x (taken past) e) s.head)
 
-  pub part_refused : (r : ReceiverState S) (e : FragmentFields) (moment : ℕ) (cause : Refuse) (past : List (Call S)) (o : Option Refuse) → Stands codec r past → o ≡ refusal r.known.session r.known.head (taken past) e → o ≡ Some cause → Answers codec (Deliver (Ok (FragmentMessage e)) moment (Refused cause)) past × Stands codec r (Deliver (Ok (FragmentMessage e)) moment (Refused cause) ∷ past)
+  pub part_refused : (r : ReceiverState S) (e : FragmentFields) (moment : ℕ) (cause : Refuse) (past : List (ReceiverCall S)) (o : Option Refuse) → ReceiverStands codec r past → o ≡ refusal r.known.session r.known.head (taken past) e → o ≡ Some cause → ReceiverAnswers codec (Deliver (Ok (FragmentMessage e)) moment (Refused cause)) past × ReceiverStands codec r (Deliver (Ok (FragmentMessage e)) moment (Refused cause) ∷ past)
   part_refused r e moment cause past o s h is =
       refused codec r (Ok (FragmentMessage e)) moment cause past s (ap (λ x. unless_refused x (Taken (ack_after codec past e moment))) (sym is ∙ cause_is r e past o s h))
 
@@ -44,14 +44,14 @@ module _ {S : Type 0} (codec : Coding S) where
   taken_if None a h = tt
   taken_if (Some cause) a h = absurd (cc)
 
-  pub part_memory : (r r' : ReceiverState S) (e : FragmentFields) (moment : ℕ) (past : List (Call S)) (o : Option Refuse) → Stands codec r past → o ≡ refusal r.known.session r.known.head (taken past) e → o ≡ None → r' ≡ r → Answers codec (Deliver (Ok (FragmentMessage e)) moment Memory) past × Stands codec r' (Deliver (Ok (FragmentMessage e)) moment Memory ∷ past)
+  pub part_memory : (r r' : ReceiverState S) (e : FragmentFields) (moment : ℕ) (past : List (ReceiverCall S)) (o : Option Refuse) → ReceiverStands codec r past → o ≡ refusal r.known.session r.known.head (taken past) e → o ≡ None → r' ≡ r → ReceiverAnswers codec (Deliver (Ok (FragmentMessage e)) moment Memory) past × ReceiverStands codec r' (Deliver (Ok (FragmentMessage e)) moment Memory ∷ past)
   part_memory r r' e moment past o s h is same =
-      subst (λ (b : ReceiverState S). Answers codec (Deliver (Ok (FragmentMessage e)) moment Memory) past × Stands codec b (Deliver (Ok (FragmentMessage e)) moment Memory ∷ past)) (sym same)
+      subst (λ (b : ReceiverState S). ReceiverAnswers codec (Deliver (Ok (FragmentMessage e)) moment Memory) past × ReceiverStands codec b (Deliver (Ok (FragmentMessage e)) moment Memory ∷ past)) (sym same)
       (without_memory codec r e moment past s (taken_if (refusal (session past) (head past) (taken past) e) (ack_after codec past e moment) (sym (cause_is r e past o s h) ∙ is)))
 
   -- a fragment that is taken, from what entering it left
-  pub part_taken : (r r' : ReceiverState S) (e : FragmentFields) (moment : ℕ) (ack : Ack) (past : List (Call S)) (o : Option Refuse) → Stands codec r past → IsFragment e → o ≡ refusal r.known.session r.known.head (taken past) e → o ≡ None → (clash_with_taken (taken past) e ≡ None → IsEntered codec.initial r r' e moment (taken past)) → ack ≡ ack_saying e.session r'.known.gap r'.store.kept
-      → Answers codec (Deliver (Ok (FragmentMessage e)) moment (Taken ack)) past × Stands codec r' (Deliver (Ok (FragmentMessage e)) moment (Taken ack) ∷ past)
+  pub part_taken : (r r' : ReceiverState S) (e : FragmentFields) (moment : ℕ) (ack : Ack) (past : List (ReceiverCall S)) (o : Option Refuse) → ReceiverStands codec r past → IsFragment e → o ≡ refusal r.known.session r.known.head (taken past) e → o ≡ None → (clash_with_taken (taken past) e ≡ None → IsEntered codec.initial r r' e moment (taken past)) → ack ≡ ack_saying e.session r'.known.gap r'.store.kept
+      → ReceiverAnswers codec (Deliver (Ok (FragmentMessage e)) moment (Taken ack)) past × ReceiverStands codec r' (Deliver (Ok (FragmentMessage e)) moment (Taken ack) ∷ past)
   part_taken r r' e moment ack past o s is h none into acks =
       let free : refusal (session past) (head past) (taken past) e ≡ None = sym (cause_is r e past o s h) ∙ none in
       entered_stands codec r r' past e moment ack s is free (into (clash_none (clash_with_taken (taken past) e) (first_parts _ _ (first_parts _ _ free).1).1)) acks

@@ -9,12 +9,12 @@ use Rattle.sal_codec.specs.Coding.{Coding}
 use Rattle.sal_receiver.specs.declared.answers.Done.{Done}
 use Rattle.sal_receiver.specs.declared.answers.Done.TheVariants.{Stranger, Returned, Unfit, Misnamed, Older, Show}
 use Rattle.sal_receiver.specs.declared.answers.Misfit.{Misfit}
-use Rattle.sal_receiver.specs.Past.{Call, Deliver, TakeReady, Decoding, DecodeResult, Sound, Faulty, NoMemory, shown, head}
-use Rattle.sal_receiver.specs.Held.{name_in}
+use Rattle.sal_receiver.specs.Past.{ReceiverCall, Deliver, TakeReady, Decoding, DecodeResult, Sound, Faulty, NoMemory, shown, head}
+use Rattle.sal_chain.specs.Held.{name_in}
 use Rattle.sal_receiver.specs.Ready.{is_out, target_name}
 use Rattle.sal_receiver.specs.Answers.{has_size, last_shown, decoded_answer}
-use Rattle.sal_receiver.specs.Promises.{IsLegal, IsBelow, ShowsAbove, NumbersRise}
-use Rattle.sal_receiver.specs.Machine.{ReceiverState, Stands}
+use Rattle.sal_receiver.specs.Promises.{IsLegalReceiver, IsBelow, ShowsAbove, NumbersRise}
+use Rattle.sal_receiver.specs.Machine.{ReceiverState, ReceiverStands}
 use Rattle.sal_receiver.specs.Judged.{judged}
 
 -- what is below a number is below a greater one
@@ -43,13 +43,13 @@ shown_out true k shot x h = h
 shown_out false k shot x h = absurd (cc)
 
 module _ {S : Type 0} (codec : Coding S) where
-  shown_above : (past : List (Call S)) (n k : ℕ) (outcome : DecodeResult S) (shot : Picture) → Show k shot ≡ Rattle.sal_receiver.specs.Answers.outcome_answer codec past n outcome → last_shown (shown past) < k
+  shown_above : (past : List (ReceiverCall S)) (n k : ℕ) (outcome : DecodeResult S) (shot : Picture) → Show k shot ≡ Rattle.sal_receiver.specs.Answers.outcome_answer codec past n outcome → last_shown (shown past) < k
   shown_above past n k (Sound state picture) shot h =
       above_shown k n (last_shown (shown past)) (not_passed (has_size (head past) picture) (same (name_in codec state) (target_name past n)) (leb n (last_shown (shown past))) k n (last_shown (shown past)) _ _ _ picture shot h)
   shown_above past n k (Faulty fault) shot h = absurd (cc)
   shown_above past n k NoMemory shot h = absurd (cc)
 
-  pub rising : (past : List (Call S)) → IsLegal codec past → NumbersRise (shown past)
+  pub rising : (past : List (ReceiverCall S)) → IsLegalReceiver codec past → NumbersRise (shown past)
   rising [] legal = legal
   rising (Deliver came moment answer ∷ past) legal = rising past legal.1
   rising (TakeReady answer ∷ past) legal = rising past legal.1
@@ -63,7 +63,7 @@ module _ {S : Type 0} (codec : Coding S) where
       (above_last (shown past) k before (shown_above past n k outcome shot (shown_out (is_out past n) k shot _ legal.0.0)), before)
 
   -- what the judge shows is above all that was shown
-  pub judged_above : (r : ReceiverState S) (past : List (Call S)) (n : ℕ) (target name : Name) (picture : Picture) (result : Done) → Stands codec r past → result ≡ judged n target name picture r → ShowsAbove (shown past) result
+  pub judged_above : (r : ReceiverState S) (past : List (ReceiverCall S)) (n : ℕ) (target name : Name) (picture : Picture) (result : Done) → ReceiverStands codec r past → result ≡ judged n target name picture r → ShowsAbove (shown past) result
   judged_above r past n target name picture Stranger s h = tt
   judged_above r past n target name picture (Returned k) s h = tt
   judged_above r past n target name picture (Unfit k why) s h = tt

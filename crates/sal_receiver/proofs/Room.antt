@@ -10,11 +10,11 @@ use Rattle.sal_chain.specs.Held.{inserted, in_order, not_below, with_number}
 use Rattle.sal_receiver.specs.declared.answers.Done.TheVariants.{Stranger, Returned, Unfit, Misnamed, Older, Show}
 use Rattle.sal_receiver.specs.declared.pending_frame.Stage.TheVariants as stages
 use Rattle.sal_receiver.specs.declared.pending_frame.PendingFrame.{PendingFrame}
-use Rattle.sal_receiver.specs.Past.{Call, Deliver, TakeReady, Decoding, Sound, Faulty, NoMemory, taken, floor}
+use Rattle.sal_receiver.specs.Past.{ReceiverCall, Deliver, TakeReady, Decoding, Sound, Faulty, NoMemory, taken, floor}
 use Rattle.sal_receiver.specs.Held.{decoded, kept_as}
 use Rattle.sal_receiver.specs.Ready.{ready_source, frame, source_name, target_name, is_out, is_decided}
 use Rattle.sal_receiver.specs.Pending.{at, is_whole, wants, wanting, Rises}
-use Rattle.sal_receiver.specs.Machine.{ReceiverState, Stands, pending_as, stage_of}
+use Rattle.sal_receiver.specs.Machine.{ReceiverState, ReceiverStands, pending_as, stage_of}
 use Rattle.sal_receiver.specs.Judged.{IsNew}
 use Rattle.sal_receiver.proofs.FrameLemmas.{at_below}
 use Rattle.sal_receiver.proofs.Was.{out_ready, out_undecided, ready_whole}
@@ -60,7 +60,7 @@ module _ {S : Type 0} where
       from_step (leb floor x.number) n x (not_below floor xs) other.0 (from_numbered floor n xs other.1)
 
 module _ {S : Type 0} (codec : Coding S) where
-  decoded_numbered : (past : List (Call S)) (n : ℕ) → is_decided past n ≡ false → with_number n (decoded codec past) ≡ None
+  decoded_numbered : (past : List (ReceiverCall S)) (n : ℕ) → is_decided past n ≡ false → with_number n (decoded codec past) ≡ None
   decoded_numbered [] n h = refl
   decoded_numbered (Deliver came moment answer ∷ past) n h = decoded_numbered past n h
   decoded_numbered (TakeReady answer ∷ past) n h = decoded_numbered past n h
@@ -85,7 +85,7 @@ module _ {S : Type 0} (codec : Coding S) where
 
   -- ---- the number stands in the window
 
-  near_step : (r : ReceiverState S) (past : List (Call S)) (n : ℕ) → Stands codec r past → has_all (fragments_of n (taken past)) ≡ true → (n < r.slots.floor + 16) ⊎ (r.slots.floor + 16 ≤ n) → n < r.store.floor + 16
+  near_step : (r : ReceiverState S) (past : List (ReceiverCall S)) (n : ℕ) → ReceiverStands codec r past → has_all (fragments_of n (taken past)) ≡ true → (n < r.slots.floor + 16) ⊎ (r.slots.floor + 16 ≤ n) → n < r.store.floor + 16
   near_step r past n s all (inl less) =
       let same : r.slots.floor ≡ r.store.floor = s.slots.floor ∙ sym s.floor in
       omega (arith, same)
@@ -93,10 +93,10 @@ module _ {S : Type 0} (codec : Coding S) where
       let none : has_all (fragments_of n (taken past)) ≡ false = ap (λ ps. has_all ps) (s.slots.near n over) in
       absurd (let q : true ≡ false = sym all ∙ none in cc)
 
-  whole_near : (r : ReceiverState S) (past : List (Call S)) (n : ℕ) → Stands codec r past → has_all (fragments_of n (taken past)) ≡ true → n < r.store.floor + 16
+  whole_near : (r : ReceiverState S) (past : List (ReceiverCall S)) (n : ℕ) → ReceiverStands codec r past → has_all (fragments_of n (taken past)) ≡ true → n < r.store.floor + 16
   whole_near r past n s all = near_step r past n s all (cases_lt n (r.slots.floor + 16))
 
-  pub out_new : (r : ReceiverState S) (past : List (Call S)) (n : ℕ) → Stands codec r past → is_out past n ≡ true → IsNew r n
+  pub out_new : (r : ReceiverState S) (past : List (ReceiverCall S)) (n : ℕ) → ReceiverStands codec r past → is_out past n ≡ true → IsNew r n
   out_new r past n s out = record {
     near = whole_near r past n s (ready_whole codec past n s.legal (out_ready codec past n s.legal out));
     fresh =
@@ -120,7 +120,7 @@ module _ {S : Type 0} (codec : Coding S) where
     high : p.number < r.store.floor + 16
     other : p.number ≡ n → ⊥
 
-  apart : (r : ReceiverState S) (past : List (Call S)) (n : ℕ) (p : PendingFrame S) → Stands codec r past → is_out past n ≡ true → at p.number r.frames ≡ Some p → is_whole p.stage ≡ true → IsApart r n p
+  apart : (r : ReceiverState S) (past : List (ReceiverCall S)) (n : ℕ) (p : PendingFrame S) → ReceiverStands codec r past → is_out past n ≡ true → at p.number r.frames ≡ Some p → is_whole p.stage ≡ true → IsApart r n p
   apart r past n p s out there whole =
       let case = whole_case (is_out past p.number) (is_decided past p.number) (leb (floor past) p.number) (has_all (fragments_of p.number (taken past))) (ready_source codec past p.number) p.number (source_name past p.number) (target_name past p.number) (frame past p.number) p (sym (s.frames p.number) ∙ there) whole in
       let near : p.number < r.store.floor + 16 = whole_near r past p.number s case.1.1 in
@@ -189,7 +189,7 @@ module _ {S : Type 0} where
 
 module _ {S : Type 0} (codec : Coding S) where
   -- at most fifteen whole frames want a share of one that is out
-  pub few_want : (r : ReceiverState S) (past : List (Call S)) (n : ℕ) (name : List ℕ) → Stands codec r past → is_out past n ≡ true → r.store.floor ≤ n → wanting name r.frames ≤ 15
+  pub few_want : (r : ReceiverState S) (past : List (ReceiverCall S)) (n : ℕ) (name : List ℕ) → ReceiverStands codec r past → is_out past n ≡ true → r.store.floor ≤ n → wanting name r.frames ≤ 15
   few_want r past n name s out low =
       let near : n < r.store.floor + 16 = (out_new codec r past n s out).near in
       let few : wanting name r.frames + cond (leb 0 n) 1 0 ≤ (r.store.floor + 16) - max r.store.floor 0 =

@@ -12,11 +12,11 @@ use Rattle.sal_receiver.specs.declared.answers.Delivered.TheVariants.{Taken, End
 use Rattle.sal_receiver.specs.declared.answers.Refuse.{Refuse}
 use Rattle.sal_receiver.specs.declared.answers.Done.{Done}
 use Rattle.sal_receiver.specs.declared.answers.Done.TheVariants.{Stranger, Returned, Unfit, Misnamed, Older, Show}
-use Rattle.sal_receiver.specs.Past.{Call, Deliver, TakeReady, Decoding, DecodeResult, taken, floor, fragment_in, session, head}
+use Rattle.sal_receiver.specs.Past.{ReceiverCall, Deliver, TakeReady, Decoding, DecodeResult, taken, floor, fragment_in, session, head}
 use Rattle.sal_receiver.specs.Held.{held_under}
-use Rattle.sal_receiver.specs.Ready.{source_now, source_name, ready_source, is_ready, is_out, is_decided, take_answer}
+use Rattle.sal_receiver.specs.Ready.{source_now, source_name, ready_source, is_ready, is_out, is_decided, ready_answer}
 use Rattle.sal_receiver.specs.Answers.{clash_cause, first_of, refusal, unless_refused, deliver_answer, decoded_answer, outcome_answer, ack_after}
-use Rattle.sal_receiver.specs.Promises.{IsLegal, IsTaken}
+use Rattle.sal_receiver.specs.Promises.{IsLegalReceiver, IsTaken}
 use Rattle.sal_receiver.proofs.PartsLemmas.{all_stay}
 use Rattle.sal_receiver.proofs.LeastLemmas.{least_in, filter_has, parts_taken, grown}
 
@@ -55,18 +55,18 @@ not_memory : (a : Ack) → Taken a ≡ Memory → ⊥
 not_memory a h = cc
 
 module _ {S : Type 0} (codec : Coding S) where
-  taken_step : (past : List (Call S)) (e : FragmentFields) (moment : ℕ) (ack : Ack) → (Taken ack ≡ deliver_answer codec past (Ok (FragmentMessage e)) moment) ⊎ ((Taken ack ≡ Memory) × IsTaken (deliver_answer codec past (Ok (FragmentMessage e)) moment)) → clash_with_taken (taken past) e ≡ None
+  taken_step : (past : List (ReceiverCall S)) (e : FragmentFields) (moment : ℕ) (ack : Ack) → (Taken ack ≡ deliver_answer codec past (Ok (FragmentMessage e)) moment) ⊎ ((Taken ack ≡ Memory) × IsTaken (deliver_answer codec past (Ok (FragmentMessage e)) moment)) → clash_with_taken (taken past) e ≡ None
   taken_step past e moment ack (inl h) =
       let none : refusal (session past) (head past) (taken past) e ≡ None = taken_means (refusal (session past) (head past) (taken past) e) ack (ack_after codec past e moment) h in
       clash_none (clash_with_taken (taken past) e) (first_parts _ _ (first_parts _ _ none).1).1
   taken_step past e moment ack (inr h) = absurd (not_memory ack h.0)
 
   -- a fragment that was taken had no clash
-  pub taken_like : (past : List (Call S)) (e : FragmentFields) (moment : ℕ) (ack : Ack) → IsLegal codec (Deliver (Ok (FragmentMessage e)) moment (Taken ack) ∷ past) → clash_with_taken (taken past) e ≡ None
+  pub taken_like : (past : List (ReceiverCall S)) (e : FragmentFields) (moment : ℕ) (ack : Ack) → IsLegalReceiver codec (Deliver (Ok (FragmentMessage e)) moment (Taken ack) ∷ past) → clash_with_taken (taken past) e ≡ None
   taken_like past e moment ack legal = taken_step past e moment ack legal.0
 
   -- what is handed out waits
-  pub take_waits : (past : List (Call S)) (m : ℕ) → Some m ≡ take_answer codec past → is_ready codec past m ≡ true
+  pub take_waits : (past : List (ReceiverCall S)) (m : ℕ) → Some m ≡ ready_answer codec past → is_ready codec past m ≡ true
   take_waits past m h = (filter_has (is_ready codec past) (map (λ (e : FragmentFields). e.number) (taken past)) m (least_in (filter (is_ready codec past) (map (λ (e : FragmentFields). e.number) (taken past))) m (sym h))).0
 
   pub waits_parts : (some out decided : Bool) → (some && not out && not decided) ≡ true → (some ≡ true) × (decided ≡ false)
@@ -75,19 +75,19 @@ module _ {S : Type 0} (codec : Coding S) where
   waits_parts true false false h = (refl, refl)
   waits_parts false out decided h = absurd (cc)
 
-  some_next : (call : Call S) (past : List (Call S)) (n : ℕ) → is_some (ready_source codec past n) ≡ true → is_some (ready_source codec (call ∷ past) n) ≡ true
+  some_next : (call : ReceiverCall S) (past : List (ReceiverCall S)) (n : ℕ) → is_some (ready_source codec past n) ≡ true → is_some (ready_source codec (call ∷ past) n) ≡ true
   unfolding ready_source
   some_next call past n h = some_later (ready_source codec past n) (source_now codec (call ∷ past) n) h
 
   -- ---- what was handed out was ready
 
-  out_step : (past : List (Call S)) (m n : ℕ) → Some m ≡ take_answer codec past → (eqb m n ≡ true) ⊎ (is_out past n ≡ true) → (is_out past n ≡ true → is_some (ready_source codec past n) ≡ true) → is_some (ready_source codec past n) ≡ true
+  out_step : (past : List (ReceiverCall S)) (m n : ℕ) → Some m ≡ ready_answer codec past → (eqb m n ≡ true) ⊎ (is_out past n ≡ true) → (is_out past n ≡ true → is_some (ready_source codec past n) ≡ true) → is_some (ready_source codec past n) ≡ true
   out_step past m n answer (inl e) more =
       subst (λ (x : ℕ). is_some (ready_source codec past x) ≡ true) (eqb-true _ _ e)
       (waits_parts (is_some (ready_source codec past m)) (is_out past m) (is_decided past m) (take_waits past m answer)).0
   out_step past m n answer (inr out) more = more out
 
-  pub out_ready : (past : List (Call S)) (n : ℕ) → IsLegal codec past → is_out past n ≡ true → is_some (ready_source codec past n) ≡ true
+  pub out_ready : (past : List (ReceiverCall S)) (n : ℕ) → IsLegalReceiver codec past → is_out past n ≡ true → is_some (ready_source codec past n) ≡ true
   out_ready [] n legal h = absurd (cc)
   out_ready (Deliver came moment answer ∷ past) n legal h = some_next (Deliver came moment answer) past n (out_ready past n legal.1 h)
   out_ready (TakeReady None ∷ past) n legal h = some_next (TakeReady None) past n (out_ready past n legal.1 h)
@@ -100,12 +100,12 @@ module _ {S : Type 0} (codec : Coding S) where
   out_ready (Decoding m outcome (Show k picture) ∷ past) n legal h = some_next (Decoding m outcome (Show k picture)) past n (out_ready past n legal.1 (and_parts (not (eqb m n)) (is_out past n) h).1)
 
   -- what was decided was handed out before, so it was ready
-  decided_step : (past : List (Call S)) (m n : ℕ) (outcome : DecodeResult S) (answer : Done) → IsLegal codec past → answer ≡ decoded_answer codec past m outcome → (answer ≡ Stranger → ⊥) → (eqb m n ≡ true) ⊎ (is_decided past n ≡ true) → (is_decided past n ≡ true → is_some (ready_source codec past n) ≡ true) → is_some (ready_source codec past n) ≡ true
+  decided_step : (past : List (ReceiverCall S)) (m n : ℕ) (outcome : DecodeResult S) (answer : Done) → IsLegalReceiver codec past → answer ≡ decoded_answer codec past m outcome → (answer ≡ Stranger → ⊥) → (eqb m n ≡ true) ⊎ (is_decided past n ≡ true) → (is_decided past n ≡ true → is_some (ready_source codec past n) ≡ true) → is_some (ready_source codec past n) ≡ true
   decided_step past m n outcome answer legal is other (inl e) more =
       subst (λ (x : ℕ). is_some (ready_source codec past x) ≡ true) (eqb-true _ _ e) (out_ready past m legal (out_if (is_out past m) answer (outcome_answer codec past m outcome) is other))
   decided_step past m n outcome answer legal is other (inr decided) more = more decided
 
-  pub decided_ready : (past : List (Call S)) (n : ℕ) → IsLegal codec past → is_decided past n ≡ true → is_some (ready_source codec past n) ≡ true
+  pub decided_ready : (past : List (ReceiverCall S)) (n : ℕ) → IsLegalReceiver codec past → is_decided past n ≡ true → is_some (ready_source codec past n) ≡ true
   decided_ready [] n legal h = absurd (cc)
   decided_ready (Deliver came moment answer ∷ past) n legal h = some_next (Deliver came moment answer) past n (decided_ready past n legal.1 h)
   decided_ready (TakeReady answer ∷ past) n legal h = some_next (TakeReady answer) past n (decided_ready past n legal.1 h)
@@ -118,7 +118,7 @@ module _ {S : Type 0} (codec : Coding S) where
 
   -- ---- what is out isn't decided
 
-  undecided_take : (past : List (Call S)) (m n : ℕ) → Some m ≡ take_answer codec past → (eqb m n ≡ true) ⊎ (is_out past n ≡ true) → (is_out past n ≡ true → is_decided past n ≡ false) → is_decided past n ≡ false
+  undecided_take : (past : List (ReceiverCall S)) (m n : ℕ) → Some m ≡ ready_answer codec past → (eqb m n ≡ true) ⊎ (is_out past n ≡ true) → (is_out past n ≡ true → is_decided past n ≡ false) → is_decided past n ≡ false
   undecided_take past m n answer (inl e) more =
       subst (λ (x : ℕ). is_decided past x ≡ false) (eqb-true _ _ e)
       (waits_parts (is_some (ready_source codec past m)) (is_out past m) (is_decided past m) (take_waits past m answer)).1
@@ -128,7 +128,7 @@ module _ {S : Type 0} (codec : Coding S) where
   undecided_step true out decided h more = absurd (cc)
   undecided_step false out decided h more = more h
 
-  pub out_undecided : (past : List (Call S)) (n : ℕ) → IsLegal codec past → is_out past n ≡ true → is_decided past n ≡ false
+  pub out_undecided : (past : List (ReceiverCall S)) (n : ℕ) → IsLegalReceiver codec past → is_out past n ≡ true → is_decided past n ≡ false
   out_undecided [] n legal h = refl
   out_undecided (Deliver came moment answer ∷ past) n legal h = out_undecided past n legal.1 h
   out_undecided (TakeReady None ∷ past) n legal h = out_undecided past n legal.1 h
@@ -142,12 +142,12 @@ module _ {S : Type 0} (codec : Coding S) where
 
   -- ---- what is ready was taken
 
-  ready_step : (past : List (Call S)) (call : Call S) (n : ℕ) → (is_some (ready_source codec past n) ≡ true) ⊎ (is_some (source_now codec (call ∷ past) n) ≡ true) → (is_some (ready_source codec past n) ≡ true → Has (map (λ (e : FragmentFields). e.number) (taken past)) n) → Has (map (λ (e : FragmentFields). e.number) (taken (call ∷ past))) n
+  ready_step : (past : List (ReceiverCall S)) (call : ReceiverCall S) (n : ℕ) → (is_some (ready_source codec past n) ≡ true) ⊎ (is_some (source_now codec (call ∷ past) n) ≡ true) → (is_some (ready_source codec past n) ≡ true → Has (map (λ (e : FragmentFields). e.number) (taken past)) n) → Has (map (λ (e : FragmentFields). e.number) (taken (call ∷ past))) n
   ready_step past call n (inl h) more = grown (fragment_in call) (taken past) n (more h)
   ready_step past call n (inr h) more =
       parts_taken (taken (call ∷ past)) n (and_parts (leb (floor (call ∷ past)) n) (has_all (fragments_of n (taken (call ∷ past)))) (some_if (is_complete (taken (call ∷ past)) n) (held_under codec (call ∷ past) (source_name (call ∷ past) n)) h)).1
 
-  pub ready_taken : (past : List (Call S)) (n : ℕ) → is_some (ready_source codec past n) ≡ true → Has (map (λ (e : FragmentFields). e.number) (taken past)) n
+  pub ready_taken : (past : List (ReceiverCall S)) (n : ℕ) → is_some (ready_source codec past n) ≡ true → Has (map (λ (e : FragmentFields). e.number) (taken past)) n
   unfolding ready_source
   ready_taken [] n h = absurd (cc)
   ready_taken (call ∷ past) n h = ready_step past call n (either_some (ready_source codec past n) (source_now codec (call ∷ past) n) h) (ready_taken past n)
@@ -162,7 +162,7 @@ module _ {S : Type 0} (codec : Coding S) where
   with_step true e es n like all = all
   with_step false e es n like all = part_step (eqb e.number n) e es n refl like all
 
-  whole_stays : (call : Call S) (past : List (Call S)) (n : ℕ) → IsLegal codec (call ∷ past) → has_all (fragments_of n (taken past)) ≡ true → has_all (fragments_of n (taken (call ∷ past))) ≡ true
+  whole_stays : (call : ReceiverCall S) (past : List (ReceiverCall S)) (n : ℕ) → IsLegalReceiver codec (call ∷ past) → has_all (fragments_of n (taken past)) ≡ true → has_all (fragments_of n (taken (call ∷ past))) ≡ true
   whole_stays (Deliver (Err fault) moment answer) past n legal all = all
   whole_stays (Deliver (Ok (AckMessage ack)) moment answer) past n legal all = all
   whole_stays (Deliver (Ok (ByeMessage number last)) moment answer) past n legal all = all
@@ -173,12 +173,12 @@ module _ {S : Type 0} (codec : Coding S) where
   whole_stays (TakeReady answer) past n legal all = all
   whole_stays (Decoding m outcome answer) past n legal all = all
 
-  whole_step : (call : Call S) (past : List (Call S)) (n : ℕ) → IsLegal codec (call ∷ past) → (is_some (ready_source codec past n) ≡ true) ⊎ (is_some (source_now codec (call ∷ past) n) ≡ true) → (is_some (ready_source codec past n) ≡ true → has_all (fragments_of n (taken past)) ≡ true) → has_all (fragments_of n (taken (call ∷ past))) ≡ true
+  whole_step : (call : ReceiverCall S) (past : List (ReceiverCall S)) (n : ℕ) → IsLegalReceiver codec (call ∷ past) → (is_some (ready_source codec past n) ≡ true) ⊎ (is_some (source_now codec (call ∷ past) n) ≡ true) → (is_some (ready_source codec past n) ≡ true → has_all (fragments_of n (taken past)) ≡ true) → has_all (fragments_of n (taken (call ∷ past))) ≡ true
   whole_step call past n legal (inl h) more = whole_stays call past n legal (more h)
   whole_step call past n legal (inr h) more =
       (and_parts (leb (floor (call ∷ past)) n) (has_all (fragments_of n (taken (call ∷ past)))) (some_if (is_complete (taken (call ∷ past)) n) (held_under codec (call ∷ past) (source_name (call ∷ past) n)) h)).1
 
-  pub ready_whole : (past : List (Call S)) (n : ℕ) → IsLegal codec past → is_some (ready_source codec past n) ≡ true → has_all (fragments_of n (taken past)) ≡ true
+  pub ready_whole : (past : List (ReceiverCall S)) (n : ℕ) → IsLegalReceiver codec past → is_some (ready_source codec past n) ≡ true → has_all (fragments_of n (taken past)) ≡ true
   unfolding ready_source
   ready_whole [] n legal h = absurd (cc)
   ready_whole (call ∷ past) n legal h = whole_step call past n legal (either_some (ready_source codec past n) (source_now codec (call ∷ past) n) h) (ready_whole past n legal.1)

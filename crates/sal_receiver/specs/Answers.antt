@@ -22,8 +22,9 @@ use Rattle.sal_receiver.specs.declared.answers.Done.{Done}
 use Rattle.sal_receiver.specs.declared.answers.Done.TheVariants.{Stranger, Returned, Unfit, Misnamed, Older, Show}
 use Rattle.sal_receiver.specs.declared.answers.Misfit.TheVariants.{Fault}
 use Rattle.sal_receiver.specs.declared.answers.Misfit.TheVariants.{Size as OtherSize}
-use Rattle.sal_receiver.specs.Past.{Call, DecodeResult, Sound, Faulty, NoMemory, taken, shown, now, session, head, head_of, arrivals, arrival_of}
-use Rattle.sal_receiver.specs.Held.{decoded, name_in}
+use Rattle.sal_receiver.specs.Past.{ReceiverCall, DecodeResult, Sound, Faulty, NoMemory, taken, shown, now, session, head, head_of, arrivals, arrival_of}
+use Rattle.sal_chain.specs.Held.{name_in}
+use Rattle.sal_receiver.specs.Held.{decoded}
 use Rattle.sal_receiver.specs.Ready.{is_out, target_name}
 
 abbrev pub same_head : Head → Head → Bool
@@ -74,32 +75,32 @@ ack_saying session gap kept = record { session = session; serial = gap.greatest;
 
 module _ {S : Type 0} (codec : Coding S) where
   -- what is held after a fragment, before its frame is decoded
-  abbrev pub held_at_fragment : List (Call S) → FragmentFields → List (StoredState S)
+  abbrev pub held_at_fragment : List (ReceiverCall S) → FragmentFields → List (StoredState S)
   held_at_fragment past e = in_order (not_below (floor_of (with_fragment e (taken past))) (decoded codec past))
 
   -- the acknowledgement after a fragment
-  abbrev pub ack_after : List (Call S) → FragmentFields → ℕ → Ack
+  abbrev pub ack_after : List (ReceiverCall S) → FragmentFields → ℕ → Ack
   ack_after past e moment = ack_saying e.session (gap_after (arrival_of e (max moment (now past)) ∷ arrivals past)) (held_at_fragment past e)
 
   -- what a datagram is answered, but for want of memory
-  abbrev pub deliver_answer : List (Call S) → Result Message WireFault → ℕ → Delivered
+  abbrev pub deliver_answer : List (ReceiverCall S) → Result Message WireFault → ℕ → Delivered
   deliver_answer past (Err fault) moment = Refused (Wire fault)
   deliver_answer past (Ok (AckMessage ack)) moment = Refused Kind
   deliver_answer past (Ok (ByeMessage number last)) moment = unless_refused (session_cause (session past) number) (Ended last)
   deliver_answer past (Ok (FragmentMessage e)) moment = unless_refused (refusal (session past) (head past) (taken past) e) (Taken (ack_after past e moment))
 
-  abbrev pub sound_answer : List (Call S) → ℕ → S → Picture → Done
+  abbrev pub sound_answer : List (ReceiverCall S) → ℕ → S → Picture → Done
   sound_answer past n state picture =
       if not (has_size (head past) picture) then Unfit n (OtherSize picture.width picture.height)
       else if not (same (name_in codec state) (target_name past n)) then Misnamed (record { 0 = target_name past n }) (record { 0 = name_in codec state })
       else if nat_le n (last_shown (shown past)) then Older n (last_shown (shown past))
       else Show n picture
 
-  abbrev pub outcome_answer : List (Call S) → ℕ → DecodeResult S → Done
+  abbrev pub outcome_answer : List (ReceiverCall S) → ℕ → DecodeResult S → Done
   outcome_answer past n NoMemory = Returned n
   outcome_answer past n (Faulty fault) = Unfit n (Fault fault)
   outcome_answer past n (Sound state picture) = sound_answer past n state picture
 
   -- what a decoding is answered
-  abbrev pub decoded_answer : List (Call S) → ℕ → DecodeResult S → Done
+  abbrev pub decoded_answer : List (ReceiverCall S) → ℕ → DecodeResult S → Done
   decoded_answer past n outcome = if not (is_out past n) then Stranger else outcome_answer past n outcome

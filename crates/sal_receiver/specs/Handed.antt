@@ -4,7 +4,7 @@ use Rattle.std.specs.Arc.{arc_value}
 use Rattle.std.specs.declared.sync.Arc.{Arc}
 use Rattle.sal_receiver.specs.declared.pending_frame.DecodeTask.{DecodeTask}
 use Rattle.sal_codec.specs.Coding.{Coding}
-use Rattle.sal_receiver.specs.Past.{Call, DecodeResult, NoMemory}
+use Rattle.sal_receiver.specs.Past.{ReceiverCall, DecodeResult, NoMemory}
 use Rattle.sal_receiver.specs.Ready.{ready_source, frame, target_name, is_out, decoding_of}
 
 -- a frame to be decoded from a state
@@ -32,11 +32,11 @@ module _ {S : Type 0} (codec : Coding S) where
   IsRun h outcome = (ran : Bool) × (outcome ≡ decoding_of codec (Some h.source) h.bytes ran) × (outcome ≡ NoMemory → IsOk (codec.decode h.source h.bytes))
 
   -- the frame of its number, from the state from which it is ready
-  pub record IsReadyFrame (past : List (Call S)) (h : HandedFrame S) : Type 0 where
+  pub record IsReadyFrame (past : List (ReceiverCall S)) (h : HandedFrame S) : Type 0 where
     pub target : target_name past h.number ≡ h.target
     pub source : ready_source codec past h.number ≡ Some h.source
     pub bytes : frame past h.number ≡ h.bytes
 
   -- own work: where its number is out, it is the frame that was handed out
-  abbrev pub IsHandedOut : List (Call S) → HandedFrame S → Type 0
+  abbrev pub IsHandedOut : List (ReceiverCall S) → HandedFrame S → Type 0
   IsHandedOut past h = IsTrue (is_out past h.number) → IsReadyFrame past h

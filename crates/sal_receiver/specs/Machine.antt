@@ -16,12 +16,12 @@ use Rattle.sal_receiver.specs.declared.session_state.SessionState.{SessionState}
 use Rattle.sal_receiver.specs.declared.pending_frame.Stage.{Stage}
 use Rattle.sal_receiver.specs.declared.pending_frame.Stage.TheVariants as stages
 use Rattle.sal_receiver.specs.declared.pending_frame.PendingFrame.{PendingFrame}
-use Rattle.sal_receiver.specs.Past.{Call, taken, shown, floor, now, session, head, arrivals}
+use Rattle.sal_receiver.specs.Past.{ReceiverCall, taken, shown, floor, now, session, head, arrivals}
 use Rattle.sal_receiver.specs.Held.{held, state_among}
 use Rattle.sal_receiver.specs.Known.{known_after}
 use Rattle.sal_receiver.specs.Ready.{ready_source, frame, source_name, target_name, is_out, is_decided}
 use Rattle.sal_receiver.specs.Answers.{last_shown}
-use Rattle.sal_receiver.specs.Promises.{IsLegal}
+use Rattle.sal_receiver.specs.Promises.{IsLegalReceiver}
 use Rattle.sal_receiver.specs.Pending.{at, frame_inserted, left_from, Rises}
 
 -- what a receiver keeps; states stand for shares of them
@@ -73,15 +73,15 @@ pub record IsEntered {S : Type 0} (initial : S) (old new : ReceiverState S) (e :
 
 module _ {S : Type 0} (codec : Coding S) where
   -- what is kept of a number's frame
-  abbrev pub stage_in : List (Call S) → ℕ → Option (Stage S)
+  abbrev pub stage_in : List (ReceiverCall S) → ℕ → Option (Stage S)
   stage_in past n = stage_of (is_out past n) (is_decided past n) (ready_source codec past n) (is_complete (taken past) n) (frame past n)
 
-  abbrev pub pending : List (Call S) → ℕ → Option (PendingFrame S)
+  abbrev pub pending : List (ReceiverCall S) → ℕ → Option (PendingFrame S)
   pending past n = option_map (pending_as n (source_name past n) (target_name past n)) (stage_in past n)
 
   -- the receiver is as these calls leave it
-  pub record Stands (r : ReceiverState S) (past : List (Call S)) : Type 0 where
-    pub legal : IsLegal codec past
+  pub record ReceiverStands (r : ReceiverState S) (past : List (ReceiverCall S)) : Type 0 where
+    pub legal : IsLegalReceiver codec past
     pub session : r.known.session ≡ session past
     pub head : r.known.head ≡ head past
     pub moment : r.known.moment ≡ now past

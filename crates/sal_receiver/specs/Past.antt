@@ -21,10 +21,10 @@ pub data DecodeResult (S : Type 0) : Type 0 where
   NoMemory : DecodeResult S
 
 -- one call with its answer
-pub data Call (S : Type 0) : Type 0 where
-  Deliver : (came : Result Message WireFault) → (moment : ℕ) → (answer : Delivered) → Call S
-  TakeReady : (answer : Option ℕ) → Call S
-  Decoding : (number : ℕ) → (outcome : DecodeResult S) → (answer : Done) → Call S
+pub data ReceiverCall (S : Type 0) : Type 0 where
+  Deliver : (came : Result Message WireFault) → (moment : ℕ) → (answer : Delivered) → ReceiverCall S
+  TakeReady : (answer : Option ℕ) → ReceiverCall S
+  Decoding : (number : ℕ) → (outcome : DecodeResult S) → (answer : Done) → ReceiverCall S
 
 -- the size and rate that a fragment says
 abbrev pub head_of : FragmentFields → Head
@@ -38,59 +38,59 @@ with_taken None before = before
 with_taken (Some e) before = with_fragment e before
 
 module _ {S : Type 0} where
-  abbrev pub fragment_in : Call S → Option FragmentFields
+  abbrev pub fragment_in : ReceiverCall S → Option FragmentFields
   fragment_in (Deliver (Ok (FragmentMessage e)) moment (Taken ack)) = Some e
   fragment_in _ = None
 
-  abbrev pub shown_in : Call S → Option (ℕ × Picture)
+  abbrev pub shown_in : ReceiverCall S → Option (ℕ × Picture)
   shown_in (Decoding n outcome (Show m picture)) = Some (m, picture)
   shown_in _ = None
 
   -- the moment of a call that wasn't refused
-  abbrev pub moment_in : Call S → ℕ
+  abbrev pub moment_in : ReceiverCall S → ℕ
   moment_in (Deliver came moment (Taken ack)) = moment
   moment_in (Deliver came moment (Ended last)) = moment
   moment_in _ = 0
 
-  abbrev pub session_in : Call S → Option ℕ
+  abbrev pub session_in : ReceiverCall S → Option ℕ
   session_in (Deliver (Ok (FragmentMessage e)) moment (Taken ack)) = Some e.session
   session_in (Deliver (Ok (ByeMessage number last)) moment (Ended m)) = Some number
   session_in _ = None
 
-  abbrev pub head_in : Call S → Option Head
+  abbrev pub head_in : ReceiverCall S → Option Head
   head_in (Deliver (Ok (FragmentMessage e)) moment (Taken ack)) = Some (head_of e)
   head_in _ = None
 
   -- the fragments that were taken while their numbers stood at or above the floor, the newest first
-  abbrev pub taken : List (Call S) → List FragmentFields
+  abbrev pub taken : List (ReceiverCall S) → List FragmentFields
   taken [] = []
   taken (call ∷ past) = with_taken (fragment_in call) (taken past)
 
   -- the numbers and pictures that were shown, the newest first
-  abbrev pub shown : List (Call S) → List (ℕ × Picture)
+  abbrev pub shown : List (ReceiverCall S) → List (ℕ × Picture)
   shown past = filter_map shown_in past
 
   -- the greatest floor of a fragment taken, or 1
-  abbrev pub floor : List (Call S) → ℕ
+  abbrev pub floor : List (ReceiverCall S) → ℕ
   floor past = floor_of (taken past)
 
   -- the greatest moment of a call that wasn't refused
-  abbrev pub now : List (Call S) → ℕ
+  abbrev pub now : List (ReceiverCall S) → ℕ
   now [] = 0
   now (call ∷ past) = max (moment_in call) (now past)
 
   -- the session of the first fragment or end
-  abbrev pub session : List (Call S) → Option ℕ
+  abbrev pub session : List (ReceiverCall S) → Option ℕ
   session [] = None
   session (call ∷ past) = or_else (session past) (session_in call)
 
   -- the size and rate of the first fragment
-  abbrev pub head : List (Call S) → Option Head
+  abbrev pub head : List (ReceiverCall S) → Option Head
   head [] = None
   head (call ∷ past) = or_else (head past) (head_in call)
 
   -- the arrivals of fragments at the moments that the receiver then had, the newest first
-  abbrev pub arrivals : List (Call S) → List Arrival
+  abbrev pub arrivals : List (ReceiverCall S) → List Arrival
   arrivals [] = []
   arrivals (call ∷ past) = with_arrival (fragment_in call) (now (call ∷ past)) (arrivals past)
     where

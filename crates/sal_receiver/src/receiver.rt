@@ -9,11 +9,11 @@ ghost use Rattle.sal_wire.specs.Layout.{IsFragment};
 ghost use Rattle.sal_wire.specs.Message.{FragmentMessage, ByeMessage};
 ghost use Rattle.sal_reasm.specs.Stands.{SlotsStand};
 ghost use Rattle.sal_reasm.specs.Offer.{clash_with_taken};
-ghost use Rattle.sal_receiver.specs.Past.{Call, Deliver, TakeReady, Decoding as Decodes, shown};
+ghost use Rattle.sal_receiver.specs.Past.{ReceiverCall, Deliver, TakeReady, Decoding as Decodes, shown};
 ghost use Rattle.sal_receiver.specs.Answers.{refusal, ack_saying};
-ghost use Rattle.sal_receiver.specs.Promises.{Answered, Answers, IsLeftAlone, ShowsAbove};
+ghost use Rattle.sal_receiver.specs.Promises.{ReceiverAnswered, ReceiverAnswers, IsLeftAlone, ShowsAbove};
 ghost use Rattle.sal_receiver.specs.Handed.{IsHandedOut, IsReadyFrame, number_of};
-ghost use Rattle.sal_receiver.specs.Machine.{ReceiverState, Stands, IsEntered};
+ghost use Rattle.sal_receiver.specs.Machine.{ReceiverState, ReceiverStands, IsEntered};
 ghost use Rattle.sal_receiver.specs.Judged.{IsNew, after_hold, after_keep, judged, after_judge};
 ghost use Rattle.sal_receiver.specs.Pending.{without, restaged, wanting};
 
@@ -67,7 +67,7 @@ impl<C: Codec> Receiver<C> {
     /// A receiver before any datagram, given the codec's initial state.
     pub fn new(alloc: Global, initial: Arc<C::State>) -> Result<Receiver<C>, Memory>
         requires { arc_value initial ≡ C.coding.initial }
-        ensures { IfOk result (λ r. Stands C.coding r []) }
+        ensures { IfOk result (λ r. ReceiverStands C.coding r []) }
     {
         Ok(Receiver {
             known: SessionState::start(),
@@ -85,7 +85,7 @@ impl<C: Codec> Receiver<C> {
     /// A fault, an acknowledgement, another session, size or rate, and a fragment that differs from what was taken are
     /// refused, in this order; then memory is taken. What is refused, and want of memory, leave everything as it was.
     pub fn deliver(&mut self, alloc: Global, bytes: &[u8], moment: u64) -> Delivered
-        ensures answered { Answered C.coding (Stands C.coding) self.old self.new (Deliver (parsed bytes.now) moment result) }
+        ensures answered { ReceiverAnswered C.coding (ReceiverStands C.coding) self.old self.new (Deliver (parsed bytes.now) moment result) }
         ensures alone { IsLeftAlone result → self.new ≡ self.old }
     {
         match read(bytes) {
@@ -98,7 +98,7 @@ impl<C: Codec> Receiver<C> {
 
     // Takes the end of a session.
     fn end(&mut self, bye: Bye, moment: u64) -> Delivered
-        ensures answered { Answered C.coding (Stands C.coding) self.old self.new (Deliver (Ok (ByeMessage bye.session bye.last)) moment result) }
+        ensures answered { ReceiverAnswered C.coding (ReceiverStands C.coding) self.old self.new (Deliver (Ok (ByeMessage bye.session bye.last)) moment result) }
         ensures alone { IsLeftAlone result → self.new ≡ self.old }
     {
         if let Some(cause) = self.known.session_cause(bye.session) {
@@ -126,7 +126,7 @@ impl<C: Codec> Receiver<C> {
     // Takes a fragment, unless there is a cause to leave it alone.
     fn part(&mut self, alloc: Global, fragment: &Fragment, moment: u64) -> Delivered
         requires { IsFragment (fields_of fragment.now) }
-        ensures answered { Answered C.coding (Stands C.coding) self.old self.new (Deliver (Ok (FragmentMessage (fields_of fragment.now))) moment result) }
+        ensures answered { ReceiverAnswered C.coding (ReceiverStands C.coding) self.old self.new (Deliver (Ok (FragmentMessage (fields_of fragment.now))) moment result) }
         ensures alone { IsLeftAlone result → self.new ≡ self.old }
     {
         if let Some(cause) = self.cause(fragment) {
@@ -170,9 +170,9 @@ impl<C: Codec> Receiver<C> {
 
     /// Hands out the ready frame of the least number; it takes no memory.
     pub fn take_ready(&mut self) -> Option<Ready<C>>
-        ensures answered { Answered C.coding (Stands C.coding) self.old self.new (TakeReady (option_map number_of result)) }
+        ensures answered { ReceiverAnswered C.coding (ReceiverStands C.coding) self.old self.new (TakeReady (option_map number_of result)) }
         ensures alone { result ≡ None → self.new ≡ self.old }
-        ensures frame { (past : List (Call C.State)) → Stands C.coding self.old past → IfSome result (IsReadyFrame C.coding past) }
+        ensures frame { (past : List (ReceiverCall C.State)) → ReceiverStands C.coding self.old past → IfSome result (IsReadyFrame C.coding past) }
     {
         ready_of(take_first(&mut self.frames))
     }
@@ -185,10 +185,10 @@ impl<C: Codec> Receiver<C> {
     /// fault or another size; another name than the fragments said; a number at least as great was shown; the picture is
     /// shown. The last two keep the state, where its number isn't below the floor.
     pub fn decoded(&mut self, decoding: Decoding<C>) -> Done
-        requires stands { (past : List (Call C.State)) × Stands C.coding self.old past }
-        ensures answered { (past : List (Call C.State)) → Stands C.coding self.old past → IsHandedOut C.coding past decoding.handed → Answers C.coding (Decodes decoding.handed.number decoding.outcome result) past × Stands C.coding self.new (Decodes decoding.handed.number decoding.outcome result ∷ past) }
+        requires stands { (past : List (ReceiverCall C.State)) × ReceiverStands C.coding self.old past }
+        ensures answered { (past : List (ReceiverCall C.State)) → ReceiverStands C.coding self.old past → IsHandedOut C.coding past decoding.handed → ReceiverAnswers C.coding (Decodes decoding.handed.number decoding.outcome result) past × ReceiverStands C.coding self.new (Decodes decoding.handed.number decoding.outcome result ∷ past) }
         ensures alone { result ≡ Done.Stranger → self.new ≡ self.old }
-        ensures rises { (past : List (Call C.State)) → Stands C.coding self.old past → ShowsAbove (shown past) result }
+        ensures rises { (past : List (ReceiverCall C.State)) → ReceiverStands C.coding self.old past → ShowsAbove (shown past) result }
     {
         let (ready, outcome) = decoding.into_parts();
         let number = ready.number();

@@ -1,6 +1,6 @@
 ghost use Rattle.std.specs.Prelude.{List, IfSome};
-ghost use Rattle.sal_receiver.specs.Past.{Call};
-ghost use Rattle.sal_receiver.specs.Machine.{Stands};
+ghost use Rattle.sal_receiver.specs.Past.{ReceiverCall};
+ghost use Rattle.sal_receiver.specs.Machine.{ReceiverStands};
 
 use super::*;
 use sal_base::{Fault, Name};
@@ -13,16 +13,16 @@ use std::test::Fail;
 
 // Delivers the bytes to a receiver that stands for some calls.
 fn put<C: Codec>(receiver: &mut Receiver<C>, alloc: Global, bytes: &[u8]) -> Delivered
-    requires { (past : List (Call C.State)) × Stands C.coding receiver.old past }
-    ensures { (past : List (Call C.State)) × Stands C.coding receiver.new past }
+    requires { (past : List (ReceiverCall C.State)) × ReceiverStands C.coding receiver.old past }
+    ensures { (past : List (ReceiverCall C.State)) × ReceiverStands C.coding receiver.new past }
 {
     receiver.deliver(alloc, bytes, 0)
 }
 
 // Decodes the next ready frame.
 fn next<C: Codec>(receiver: &mut Receiver<C>, alloc: Global, codec: &C) -> Option<Done>
-    requires { (past : List (Call C.State)) × Stands C.coding receiver.old past }
-    ensures { (past : List (Call C.State)) × Stands C.coding receiver.new past }
+    requires { (past : List (ReceiverCall C.State)) × ReceiverStands C.coding receiver.old past }
+    ensures { (past : List (ReceiverCall C.State)) × ReceiverStands C.coding receiver.new past }
 {
     match receiver.take_ready() {
         Some(ready) => Some(receiver.decoded(ready.run(alloc, codec))),
@@ -49,7 +49,7 @@ fn is_taken(answer: Delivered) -> bool {
 }
 
 fn receiver<C: Codec>(alloc: Global, codec: &C) -> Option<Receiver<C>>
-    ensures { IfSome result (λ r. (past : List (Call C.State)) × Stands C.coding r past) }
+    ensures { IfSome result (λ r. (past : List (ReceiverCall C.State)) × ReceiverStands C.coding r past) }
 {
     let Ok(initial) = codec.initial(alloc) else {
         return None;
@@ -188,8 +188,8 @@ enum After {
 
 // Delivers a part, and decodes the frame that is ready then.
 fn came<C: Codec>(receiver: &mut Receiver<C>, alloc: Global, codec: &C, part: &[u8]) -> After
-    requires { (past : List (Call C.State)) × Stands C.coding receiver.old past }
-    ensures { (past : List (Call C.State)) × Stands C.coding receiver.new past }
+    requires { (past : List (ReceiverCall C.State)) × ReceiverStands C.coding receiver.old past }
+    ensures { (past : List (ReceiverCall C.State)) × ReceiverStands C.coding receiver.new past }
 {
     let taken = is_taken(put(receiver, alloc, part));
     let done = next(receiver, alloc, codec);

@@ -17,7 +17,7 @@ use Rattle.sal_sender.specs.Chain.{made}
 use Rattle.sal_sender.specs.OneThread.{Session, burst_after}
 use Rattle.sal_sender.specs.Jobs.{Job, jobs}
 use Rattle.sal_sender.specs.Choosing.{SizedJob, candidate_fits, may_send, candidates, needed, lost_since, reported, choose_found, choose_reported, choose_needed, choose_opened, chosen}
-use Rattle.sal_sender.specs.Promises.{IsLegal, NothingFits, is_nothing, FitsItsBudget}
+use Rattle.sal_sender.specs.Promises.{IsLegalSender, NothingFits, is_nothing, FitsItsBudget}
 use Rattle.sal_sender.proofs.Thread.{IsChosen, chosen_is, length_below}
 
 not_first : {X : Type 0} (b : Bool) (x : X) (rest : Option X) → cond b (Some x) rest ≡ None → (b ≡ false) × (rest ≡ None)
@@ -96,7 +96,7 @@ module _ {S : Type 0} (codec : Coding S) (session : Session) where
       let fit : is.count ≤ may_send session past at = is.fits in
       (moment, subst (λ b. choice.count ≤ b) (sym budget) (subst (λ n. n ≤ may_send session past at) (sym count) fit), ap length is.datagrams ∙ (burst_counted past choice (sent past) ∙ sym (count ∙ is.counted)))
 
-  pub budget_of_legal : (past : Past) → IsLegal codec session past → FitsItsBudget codec session past
+  pub budget_of_legal : (past : Past) → IsLegalSender codec session past → FitsItsBudget codec session past
   budget_of_legal [] legal = tt
   budget_of_legal (NextPicture picture moment answer ∷ past) legal = (tt, budget_of_legal past legal.1)
   budget_of_legal (TakeJob answer ∷ past) legal = (tt, budget_of_legal past legal.1)

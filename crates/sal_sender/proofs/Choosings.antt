@@ -25,7 +25,7 @@ use Rattle.sal_sender.specs.Sound.{AreChained}
 use Rattle.std.proofs.lemmas.Bool.{le-leb}
 use Rattle.sal_sender.specs.JobWork.{JobWork, JobReport, encoded}
 use Rattle.sal_sender.specs.Machine.{Machine, IsCandidate, IsCandidateIn, AreCandidates}
-use Rattle.sal_sender.specs.Stands.{Summary, summary, work_in, candidate_in, spare_in, open_in, Keeps, Stands}
+use Rattle.sal_sender.specs.Stands.{Summary, summary, work_in, candidate_in, spare_in, open_in, Keeps, SenderStands}
 use Rattle.sal_sender.proofs.Quiet.{same_parts, stands_quiet, quiet_no_picture, quiet_waiting}
 use Rattle.sal_sender.proofs.Sound.{chained_of_legal, floor_low}
 use Rattle.sal_sender.proofs.Started.{none_open, lost_is}
@@ -65,14 +65,14 @@ module _ {S : Type 0} (codec : Coding S) where
       go (inr q) = in_seat floor tip head (second_wanted b o) s (wanted_seat b floor tip head o is).1 (fit_same budget (second_wanted b o) s q)
 
   -- no picture is open
-  pub no_picture : (m : Machine S) (past : Past) (moment : ℕ) → Stands codec m past → m.open_picture ≡ None → ((NoPicture ≡ chosen codec m.session past moment) ⊎ (NoPicture ≡ Memory)) × Stands codec m (Choose moment NoPicture ∷ past)
+  pub no_picture : (m : Machine S) (past : Past) (moment : ℕ) → SenderStands codec m past → m.open_picture ≡ None → ((NoPicture ≡ chosen codec m.session past moment) ⊎ (NoPicture ≡ Memory)) × SenderStands codec m (Choose moment NoPicture ∷ past)
   unfolding chosen
   no_picture m past moment s h =
       let shut : opened past ≡ None = none_open codec past m s.keeps h in
       stands_quiet codec m past (Choose moment NoPicture) s (inl (sym (ap (choose_opened codec m.session past (max (now past) moment)) shut))) (quiet_no_picture past moment)
 
   -- nothing changes for want of memory
-  pub no_memory : (m : Machine S) (past : Past) (moment : ℕ) → Stands codec m past → ((Memory ≡ chosen codec m.session past moment) ⊎ (Memory ≡ Memory)) × Stands codec m (Choose moment Memory ∷ past)
+  pub no_memory : (m : Machine S) (past : Past) (moment : ℕ) → SenderStands codec m past → ((Memory ≡ chosen codec m.session past moment) ⊎ (Memory ≡ Memory)) × SenderStands codec m (Choose moment Memory ∷ past)
   no_memory m past moment s = stands_quiet codec m past (Choose moment Memory) s (inr refl) (Rattle.sal_sender.proofs.Quiet.quiet_memory past moment)
 
   spare_any : (b : Bool) (s : Summary) (first base sure q : ℕ) → is_some (spare_in codec b s (spare_job (first + 1) sure q)) ≡ list_any is_spare (cond b (coarse_job first base q ∷ spare_job (first + 1) sure q ∷ fine_job (first + 2) base q ∷ []) (coarse_job first base q ∷ fine_job (first + 1) base q ∷ []))
@@ -94,7 +94,7 @@ module _ {S : Type 0} (codec : Coding S) where
   waits_plan false false session before past at id t c p f k g x y z v h = rw y (waits_job session before past at id c (work_in codec (summary past).shot (summary past).chosen c) (reported past c.id) h)
 
   -- the needed report isn't in
-  pub waits : (m : Machine S) (past : Past) (moment id : ℕ) (o : OpenPicture (JobReport S)) (tip_lost b : Bool) → Stands codec m past → m.open_picture ≡ Some o → tip_lost ≡ lost_of m → b ≡ is_lost_in tip_lost o → Some id ≡ missing_from (needed_in b o) → ((Waiting id ≡ chosen codec m.session past moment) ⊎ (Waiting id ≡ Memory)) × Stands codec m (Choose moment (Waiting id) ∷ past)
+  pub waits : (m : Machine S) (past : Past) (moment id : ℕ) (o : OpenPicture (JobReport S)) (tip_lost b : Bool) → SenderStands codec m past → m.open_picture ≡ Some o → tip_lost ≡ lost_of m → b ≡ is_lost_in tip_lost o → Some id ≡ missing_from (needed_in b o) → ((Waiting id ≡ chosen codec m.session past moment) ⊎ (Waiting id ≡ Memory)) × SenderStands codec m (Choose moment (Waiting id) ∷ past)
   unfolding chosen
   waits m past moment id o tip_lost b s there l e h =
       let known : tip_lost ≡ lost past = l ∙ lost_is codec m past s.keeps (chained_of_legal codec m.session past s.legal) in
@@ -137,7 +137,7 @@ module _ {S : Type 0} (codec : Coding S) where
   }
 
   -- nothing is sent
-  pub nothing_stands : (m : Machine S) (past : Past) (moment budget : ℕ) (sizes : List Size) → Stands codec m past → Nothing budget sizes ≡ chosen codec m.session past moment → Stands codec (after_nothing m moment) (Choose moment (Nothing budget sizes) ∷ past)
+  pub nothing_stands : (m : Machine S) (past : Past) (moment budget : ℕ) (sizes : List Size) → SenderStands codec m past → Nothing budget sizes ≡ chosen codec m.session past moment → SenderStands codec (after_nothing m moment) (Choose moment (Nothing budget sizes) ∷ past)
   nothing_stands m past moment budget sizes s is =
       let e = same_parts (nothing_summary past moment) (pictures past ++ []) (max moment (now past)) (length (datagrams past ++ [])) (0 + last_job past) (append-nil (pictures past)) refl (ap (λ (xs : List (List ℕ)). length xs) (append-nil (datagrams past))) (omega arith) in
       record { legal = (inl is, s.legal); keeps = subst (λ x. Keeps codec (after_nothing m moment) x) (sym e) (keeps_nothing m past moment s.keeps) }
@@ -251,7 +251,7 @@ module _ {S : Type 0} (codec : Coding S) where
   spared_then false l b false x y z w e p q t = absurd (let r : true ≡ false = sym t ∙ e in cc)
 
   -- nothing fits, though the needed report is in
-  pub nothing : (m new : Machine S) (past : Past) (moment at budget : ℕ) (o : OpenPicture (JobReport S)) (tip_lost b : Bool) (sizes : List Size) → Stands codec m past → m.open_picture ≡ Some o → tip_lost ≡ lost_of m → b ≡ is_lost_in tip_lost o → None ≡ missing_from (needed_in b o) → at ≡ max m.acks.moment moment → budget ≡ budget_in m at → found_in codec b budget o ≡ None → sizes ≡ sizes_in codec b o → new ≡ after_nothing m moment → ((Nothing budget sizes ≡ chosen codec m.session past moment) ⊎ (Nothing budget sizes ≡ Memory)) × Stands codec new (Choose moment (Nothing budget sizes) ∷ past)
+  pub nothing : (m new : Machine S) (past : Past) (moment at budget : ℕ) (o : OpenPicture (JobReport S)) (tip_lost b : Bool) (sizes : List Size) → SenderStands codec m past → m.open_picture ≡ Some o → tip_lost ≡ lost_of m → b ≡ is_lost_in tip_lost o → None ≡ missing_from (needed_in b o) → at ≡ max m.acks.moment moment → budget ≡ budget_in m at → found_in codec b budget o ≡ None → sizes ≡ sizes_in codec b o → new ≡ after_nothing m moment → ((Nothing budget sizes ≡ chosen codec m.session past moment) ⊎ (Nothing budget sizes ≡ Memory)) × SenderStands codec new (Choose moment (Nothing budget sizes) ∷ past)
   unfolding chosen
   nothing m new past moment at budget o tip_lost b sizes s seated l e h when may none queued after =
       let chained = chained_of_legal codec m.session past s.legal in
@@ -259,7 +259,7 @@ module _ {S : Type 0} (codec : Coding S) where
       let time : at ≡ max (now past) moment = when ∙ ap (λ n. max n moment) s.keeps.moment_is in
       let least : budget ≡ may_send m.session past (max (now past) moment) = may ∙ (budget_is m past at s.keeps chained ∙ ap (may_send m.session past) time) in
       let says : Nothing budget sizes ≡ chosen codec m.session past moment = go (opened past) refl (sym seated ∙ s.keeps.open_is) known least in
-      (inl says, subst (λ v. Stands codec v (Choose moment (Nothing budget sizes) ∷ past)) (sym after) (nothing_stands codec m past moment budget sizes s says))
+      (inl says, subst (λ v. SenderStands codec v (Choose moment (Nothing budget sizes) ∷ past)) (sym after) (nothing_stands codec m past moment budget sizes s says))
     where
       go : (x : Option Past) → opened past ≡ x → Some o ≡ option_map (open_in codec (summary past)) x → tip_lost ≡ lost past → budget ≡ may_send m.session past (max (now past) moment) → Nothing budget sizes ≡ choose_opened codec m.session past (max (now past) moment) x
       go None q r known least = absurd (cc)

@@ -17,7 +17,7 @@ use Rattle.sal_sender.specs.OneThread.{Session}
 use Rattle.sal_sender.specs.Acks.{acknowledged, heard}
 use Rattle.sal_sender.specs.Choosing.{first_in}
 use Rattle.sal_sender.specs.Answers.{unsent_or_misnamed, first_wrong, newly_named, fresh, unless_wrong}
-use Rattle.sal_sender.specs.Promises.{IsLegal}
+use Rattle.sal_sender.specs.Promises.{IsLegalSender}
 use Rattle.sal_sender.proofs.Sound.{chained_of_legal, tip_is}
 
 each_append : {X : Type 0} (P : X → Type 0) (xs ys : List X) → Each P xs → Each P ys → Each P (xs ++ ys)
@@ -54,7 +54,7 @@ some_none false why o h = refl
 
 module _ {S : Type 0} (codec : Coding S) (session : Session) where
   -- no acknowledged number is above the tip
-  pub acked_low : (past : Past) → IsLegal codec session past → Each (λ n. n ≤ tip past) (acknowledged past)
+  pub acked_low : (past : Past) → IsLegalSender codec session past → Each (λ n. n ≤ tip past) (acknowledged past)
   acked_low [] legal = tt
   acked_low (NextPicture picture moment answer ∷ past) legal = acked_low past legal.1
   acked_low (TakeJob answer ∷ past) legal = acked_low past legal.1

@@ -13,7 +13,8 @@ use Rattle.sal_sender.specs.declared.sent_frame.SentFrame.{SentFrame}
 use Rattle.sal_sender.specs.declared.answers.Next.TheVariants.{Started, NotChosen, Full, Memory as NextMemory}
 use Rattle.sal_sender.specs.declared.answers.Chosen.TheVariants.{NoPicture, Waiting, Sent, Nothing, Memory}
 use Rattle.sal_sender.specs.Past.{Past, NextPicture, TakeJob, Report, Choose, Hear, choices, pictures, opened, started, now, sent, tip, tip_of, floor, floor_of}
-use Rattle.sal_sender.specs.Chain.{name_in, state}
+use Rattle.sal_chain.specs.Held.{name_in}
+use Rattle.sal_sender.specs.Chain.{state}
 use Rattle.sal_sender.specs.Acks.{acknowledged}
 use Rattle.sal_sender.specs.Jobs.{Job}
 use Rattle.sal_sender.specs.Answers.{jobs_after, is_taken, waiting_jobs}
@@ -21,7 +22,7 @@ use Rattle.sal_sender.specs.SentFrames.{sent_frame_of, choices_from, sent_frames
 use Rattle.sal_sender.specs.Sending.{with_choice, after_choice, IsNext}
 use Rattle.sal_sender.specs.Sound.{AreChained}
 use Rattle.sal_sender.specs.Machine.{Machine}
-use Rattle.sal_sender.specs.Stands.{Summary, summary, work_in, kept_in, Keeps, Stands}
+use Rattle.sal_sender.specs.Stands.{Summary, summary, work_in, kept_in, Keeps, SenderStands}
 use Rattle.sal_sender.proofs.HandedOut.{each_filter}
 use Rattle.sal_sender.proofs.Older.{state_older}
 use Rattle.sal_sender.proofs.Sound.{tip_is, sound_of_legal}
@@ -172,7 +173,7 @@ module _ {S : Type 0} (codec : Coding S) where
   sources_low past (j ∷ js) f e chained = ((let low : j.source ≤ tip past = e.0.1 in omega (arith, low, tip_is (choices past) chained)), sources_low past js f e.1 chained)
 
   -- jobs that wait are encoded from what was chosen
-  waiting_low : (m : Machine S) (past before : Past) → Stands codec m past → opened past ≡ Some before → Each (λ j. j.source ≤ length (choices past)) (waiting_jobs past)
+  waiting_low : (m : Machine S) (past before : Past) → SenderStands codec m past → opened past ≡ Some before → Each (λ j. j.source ≤ length (choices past)) (waiting_jobs past)
   waiting_low m past before s there =
       let sound = sound_of_legal codec m.session past s.legal in
       let same : opened past ≡ started past = there ∙ sym (started_is past before there) in
@@ -189,7 +190,7 @@ module _ {S : Type 0} (codec : Coding S) where
     opened = None;
   }
 
-  pub keeps_sent : (m : Machine S) (past before : Past) (moment : ℕ) (choice : Choice) (name : Name) (t : S) → Stands codec m past → opened past ≡ Some before → m.store.floor ≡ m.floor → IsNext m choice → AreChained (choice ∷ choices past) → Each (λ n. n ≤ tip past) (acknowledged past) → choice.moment ≡ max m.acks.moment moment → name.0 ≡ name_in codec t → state codec (pictures past) (choice ∷ choices past) choice.number ≡ t → Keeps codec (after_choice m choice name t) (sent_summary past moment choice choice.count)
+  pub keeps_sent : (m : Machine S) (past before : Past) (moment : ℕ) (choice : Choice) (name : Name) (t : S) → SenderStands codec m past → opened past ≡ Some before → m.store.floor ≡ m.floor → IsNext m choice → AreChained (choice ∷ choices past) → Each (λ n. n ≤ tip past) (acknowledged past) → choice.moment ≡ max m.acks.moment moment → name.0 ≡ name_in codec t → state codec (pictures past) (choice ∷ choices past) choice.number ≡ t → Keeps codec (after_choice m choice name t) (sent_summary past moment choice choice.count)
   keeps_sent m past before moment choice name t s there store next chained low at named made =
       let k = s.keeps in
       let rising : floor past ≤ choice.floor = omega (arith, next.rising, k.floor_is) in

@@ -15,7 +15,7 @@ use Rattle.sal_sender.specs.Selecting.{is_lost_in, needed_in, missing_from, foun
 use Rattle.sal_sender.specs.Sending.{lost_of, budget_in}
 use Rattle.sal_sender.specs.JobWork.{JobReport}
 use Rattle.sal_sender.specs.Machine.{Machine}
-use Rattle.sal_sender.specs.Stands.{summary, open_in, Stands}
+use Rattle.sal_sender.specs.Stands.{summary, open_in, SenderStands}
 use Rattle.sal_sender.proofs.Choosings.{size_by, cands_of, spared_then, lost_here, budget_is}
 use Rattle.sal_sender.proofs.ChosenFound.{IsFound, found_planned, among_planned}
 use Rattle.sal_sender.proofs.Sound.{chained_of_legal}
@@ -43,7 +43,7 @@ module _ {S : Type 0} (codec : Coding S) where
       sym (ap sends (subst (λ y. sent_with codec m.session past (choice_of past at sized.0 (datagram_count sized.1)) ≡ choose_needed codec m.session before past at (needed y (jobs before))) d needed_there))
 
   -- where a report was found, the choice is sent
-  pub lacks : (m : Machine S) (past : Past) (moment at budget : ℕ) (o : OpenPicture (JobReport S)) (tip_lost b : Bool) (candidate : Candidate (JobReport S)) → Stands codec m past → m.open_picture ≡ Some o → tip_lost ≡ lost_of m → b ≡ is_lost_in tip_lost o → None ≡ missing_from (needed_in b o) → at ≡ max m.acks.moment moment → budget ≡ budget_in m at → found_in codec b budget o ≡ Some candidate → sends (chosen codec m.session past moment) ≡ true
+  pub lacks : (m : Machine S) (past : Past) (moment at budget : ℕ) (o : OpenPicture (JobReport S)) (tip_lost b : Bool) (candidate : Candidate (JobReport S)) → SenderStands codec m past → m.open_picture ≡ Some o → tip_lost ≡ lost_of m → b ≡ is_lost_in tip_lost o → None ≡ missing_from (needed_in b o) → at ≡ max m.acks.moment moment → budget ≡ budget_in m at → found_in codec b budget o ≡ Some candidate → sends (chosen codec m.session past moment) ≡ true
   unfolding chosen
   lacks m past moment at budget o tip_lost b candidate s seated l e h when may first =
       let chained = chained_of_legal codec m.session past s.legal in

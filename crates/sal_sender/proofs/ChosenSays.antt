@@ -30,7 +30,7 @@ use Rattle.sal_sender.specs.Sending.{pause_in, choice_from, IsPrepared}
 use Rattle.sal_sender.specs.Sound.{AreChained}
 use Rattle.sal_sender.specs.JobWork.{JobWork, JobReport, encoded}
 use Rattle.sal_sender.specs.Machine.{Machine}
-use Rattle.sal_sender.specs.Stands.{summary, work_in, open_in, Keeps, Stands}
+use Rattle.sal_sender.specs.Stands.{summary, work_in, open_in, Keeps, SenderStands}
 use Rattle.sal_sender.proofs.Choosings.{ran_of, size_by, cands_of, seat_of, spared_then}
 use Rattle.sal_sender.proofs.ChosenFound.{IsFound, found_planned, among_planned}
 use Rattle.sal_sender.proofs.Sound.{chained_of_legal, floor_low}
@@ -110,7 +110,7 @@ module _ {S Z : Type 0} (codec : Coding S) where
     pub said : IsSaid session past at t found
     pub answer : Sent t.choice t.burst ≡ choose_opened codec session past (max (now past) moment) (opened past)
 
-  pub opened_says : (m : Machine S) (past before : Past) (moment at budget : ℕ) (o : OpenPicture (JobReport S)) (b : Bool) (candidate : Candidate (JobReport S)) (t : PreparedFrame (Arc S Z)) → Stands codec m past → opened past ≡ Some before → o ≡ open_in codec (summary past) before → b ≡ lost_since before past → None ≡ missing_from (needed_in b o) → at ≡ max (now past) moment → budget ≡ may_send m.session past at → found_in codec b budget o ≡ Some candidate → IsPrepared codec m candidate at t → IsAnswer m.session past moment at t
+  pub opened_says : (m : Machine S) (past before : Past) (moment at budget : ℕ) (o : OpenPicture (JobReport S)) (b : Bool) (candidate : Candidate (JobReport S)) (t : PreparedFrame (Arc S Z)) → SenderStands codec m past → opened past ≡ Some before → o ≡ open_in codec (summary past) before → b ≡ lost_since before past → None ≡ missing_from (needed_in b o) → at ≡ max (now past) moment → budget ≡ may_send m.session past at → found_in codec b budget o ≡ Some candidate → IsPrepared codec m candidate at t → IsAnswer m.session past moment at t
   opened_says m past before moment at budget o b candidate t s there is d h time least first prepared =
       let spared : Bool = needs_spare (base before) (safe before) (tip before) in
       let first_id : ℕ = last_job before + 1 in

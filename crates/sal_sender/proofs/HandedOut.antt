@@ -13,13 +13,13 @@ use Rattle.sal_sender.specs.OneThread.{Session}
 use Rattle.sal_sender.specs.Jobs.{Job, jobs, base, needs_spare}
 use Rattle.sal_sender.specs.Acks.{safe}
 use Rattle.sal_sender.specs.Answers.{jobs_after, next_answer, take_answer, is_taken, is_outstanding, waiting_jobs, IsLeastWaiting}
-use Rattle.sal_sender.specs.Promises.{IsLegal}
+use Rattle.sal_sender.specs.Promises.{IsLegalSender}
 use Rattle.sal_sender.specs.Machine.{Machine, flag}
 use Rattle.sal_sender.specs.declared.open_picture.JobQueue.{JobQueue}
 use Rattle.sal_sender.specs.Choosing.{first_in}
 use Rattle.sal_sender.specs.Candidates.{queued}
 use Rattle.sal_sender.specs.JobWork.{JobWork}
-use Rattle.sal_sender.specs.Stands.{summary, work_of, Keeps, Stands}
+use Rattle.sal_sender.specs.Stands.{summary, work_of, Keeps, SenderStands}
 use Rattle.sal_sender.proofs.Quiet.{parts_stay}
 
 -- numbers rise from at least this one
@@ -107,7 +107,7 @@ same_low : (js : List Job) (m n : ℕ) → m ≡ n → Each (λ j. j.id ≤ m) j
 same_low js m n e h = subst (λ k. Each (λ j. j.id ≤ k) js) e h
 
 -- the jobs of the newest picture are none above the last
-pub ids_low : {S : Type 0} (codec : Coding S) (session : Session) (past : Past) → IsLegal codec session past → Each (λ j. j.id ≤ last_job past) (jobs_after (started past))
+pub ids_low : {S : Type 0} (codec : Coding S) (session : Session) (past : Past) → IsLegalSender codec session past → Each (λ j. j.id ≤ last_job past) (jobs_after (started past))
 ids_low codec session [] legal = tt
 ids_low codec session (NextPicture picture moment (Started n) ∷ past) legal = jobs_low past n (next_count past n legal.0)
 ids_low codec session (NextPicture picture moment (NotChosen n) ∷ past) legal = same_low _ _ _ (omega arith) (ids_low codec session past legal.1)
@@ -180,9 +180,9 @@ module _ {S : Type 0} (codec : Coding S) where
       or_step false p q e = e
 
   -- a sender that hands out the first job that waits
-  pub taken : (inside m : Machine S) (past : Past) (queue : JobQueue (JobWork S)) (outstanding : List Bool) (w : JobWork S) (id : ℕ) → inside ≡ m → Stands codec m past → first_in (queued inside.waiting) ≡ Some w → queued queue ≡ drop 1 (queued inside.waiting) → id ≡ w.id → outstanding ≡ set inside.outstanding id true → (Some w.id ≡ take_answer past) × Stands codec (with_taken inside queue outstanding) (TakeJob (Some w.id) ∷ past)
+  pub taken : (inside m : Machine S) (past : Past) (queue : JobQueue (JobWork S)) (outstanding : List Bool) (w : JobWork S) (id : ℕ) → inside ≡ m → SenderStands codec m past → first_in (queued inside.waiting) ≡ Some w → queued queue ≡ drop 1 (queued inside.waiting) → id ≡ w.id → outstanding ≡ set inside.outstanding id true → (Some w.id ≡ take_answer past) × SenderStands codec (with_taken inside queue outstanding) (TakeJob (Some w.id) ∷ past)
   taken inside m past queue outstanding w id view s first tail own marked =
-      let s' : Stands codec inside past = subst (λ v. Stands codec v past) (sym view) s in
+      let s' : SenderStands codec inside past = subst (λ v. SenderStands codec v past) (sym view) s in
       let told = first_told (work_of codec past) (waiting_jobs past) (queued inside.waiting) w s'.keeps.waiting_are first in
       let x : Job = told.0 in
       let rest : List Job = told.1.0 in
@@ -193,13 +193,13 @@ module _ {S : Type 0} (codec : Coding S) where
       let marks : outstanding ≡ set inside.outstanding x.id true = marked ∙ ap (λ i. set inside.outstanding i true) (own ∙ sym name) in
       let k = keeps_taken inside past queue outstanding x rest s'.keeps waits low.0 (tail ∙ told.1.3) marks in
       let e = parts_stay (record (summary past) { waiting = waiting_jobs (TakeJob (Some x.id) ∷ past); is_outstanding = is_outstanding (TakeJob (Some x.id) ∷ past) }) past refl refl refl refl in
-      let both : (Some x.id ≡ take_answer past) × Stands codec (with_taken inside queue outstanding) (TakeJob (Some x.id) ∷ past) = (answer, record { legal = (answer, s'.legal); keeps = subst (λ y. Keeps codec (with_taken inside queue outstanding) y) (sym e) k }) in
-      subst (λ n. (Some n ≡ take_answer past) × Stands codec (with_taken inside queue outstanding) (TakeJob (Some n) ∷ past)) name both
+      let both : (Some x.id ≡ take_answer past) × SenderStands codec (with_taken inside queue outstanding) (TakeJob (Some x.id) ∷ past) = (answer, record { legal = (answer, s'.legal); keeps = subst (λ y. Keeps codec (with_taken inside queue outstanding) y) (sym e) k }) in
+      subst (λ n. (Some n ≡ take_answer past) × SenderStands codec (with_taken inside queue outstanding) (TakeJob (Some n) ∷ past)) name both
 
   -- what waits first by what is kept is what waits first by the calls so far
-  pub waits_first : (inside m : Machine S) (past : Past) (o : Option (JobWork S)) → inside ≡ m → Stands codec m past → o ≡ first_in (queued inside.waiting) → o ≡ option_map (work_of codec past) (first_in (waiting_jobs past))
+  pub waits_first : (inside m : Machine S) (past : Past) (o : Option (JobWork S)) → inside ≡ m → SenderStands codec m past → o ≡ first_in (queued inside.waiting) → o ≡ option_map (work_of codec past) (first_in (waiting_jobs past))
   waits_first inside m past o view s first =
-      let s' : Stands codec inside past = subst (λ v. Stands codec v past) (sym view) s in
+      let s' : SenderStands codec inside past = subst (λ v. SenderStands codec v past) (sym view) s in
       first ∙ (ap first_in s'.keeps.waiting_are ∙ first_of_map (work_of codec past) (waiting_jobs past))
 
   least_of_first : (past : Past) (w : JobWork S) (o : Option Job) → first_in (waiting_jobs past) ≡ o → Some w ≡ option_map (work_of codec past) o → IsLeastWaiting past w.id
@@ -208,5 +208,5 @@ module _ {S : Type 0} (codec : Coding S) where
       let own : w.id ≡ x.id = (let p : w ≡ work_of codec past x = cc in ap (λ (v : JobWork S). v.id) p) in
       subst (λ n. IsLeastWaiting past n) (sym own) (first_least past x e)
 
-  pub waits_least : (inside m : Machine S) (past : Past) (w : JobWork S) → inside ≡ m → Stands codec m past → Some w ≡ first_in (queued inside.waiting) → IsLeastWaiting past w.id
+  pub waits_least : (inside m : Machine S) (past : Past) (w : JobWork S) → inside ≡ m → SenderStands codec m past → Some w ≡ first_in (queued inside.waiting) → IsLeastWaiting past w.id
   waits_least inside m past w view s first = least_of_first past w (first_in (waiting_jobs past)) refl (waits_first inside m past (Some w) view s first)

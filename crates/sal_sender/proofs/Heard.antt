@@ -23,7 +23,8 @@ use Rattle.sal_sender.specs.declared.answers.HeardAck.{HeardAck}
 use Rattle.sal_sender.specs.declared.answers.HeardAck.TheVariants.{Heard, Ignored}
 use Rattle.sal_sender.specs.declared.answers.Ignore.TheVariants.{Unsent, Name as OtherName}
 use Rattle.sal_sender.specs.Past.{Past, Hear, choices, floor, floor_of, tip, tip_of, pictures, datagrams, last_job, now}
-use Rattle.sal_sender.specs.Chain.{name_in, state}
+use Rattle.sal_chain.specs.Held.{name_in}
+use Rattle.sal_sender.specs.Chain.{state}
 use Rattle.sal_sender.specs.Acks.{acknowledged, heard, average, heard_at}
 use Rattle.sal_sender.specs.Choosing.{first_in, first_some}
 use Rattle.sal_sender.specs.Answers.{unsent_or_misnamed, first_wrong, newly_named, fresh, unless_wrong, ack_answer, heard_answer}
@@ -31,7 +32,7 @@ use Rattle.sal_sender.specs.SentFrames.{sent_frame_of, choices_from, is_acknowle
 use Rattle.sal_sender.specs.Hearing.{against, unsent_or_misnamed_in, first_wrong_in, newly_in, ack_answer_in, after_ack}
 use Rattle.sal_sender.specs.Sound.{AreChained}
 use Rattle.sal_sender.specs.Machine.{Machine}
-use Rattle.sal_sender.specs.Stands.{Summary, summary, kept_in, Keeps, Stands}
+use Rattle.sal_sender.specs.Stands.{Summary, summary, kept_in, Keeps, SenderStands}
 use Rattle.sal_sender.proofs.Sound.{chained_of_legal, tip_is}
 use Rattle.sal_sender.proofs.Quiet.{same_parts, quiet_ignored, stands_quiet}
 
@@ -203,7 +204,7 @@ module _ {S : Type 0} (codec : Coding S) where
         outstanding_are = k.outstanding_are;
       }
 
-  heard_stands : (m : Machine S) (past : Past) (ack : Ack) (moment : ℕ) (answer : HeardAck) → Stands codec m past → answer ≡ ack_answer codec m.session past ack → Stands codec (after_ack m ack moment answer) (Hear (Ok (AckMessage ack)) moment answer ∷ past)
+  heard_stands : (m : Machine S) (past : Past) (ack : Ack) (moment : ℕ) (answer : HeardAck) → SenderStands codec m past → answer ≡ ack_answer codec m.session past ack → SenderStands codec (after_ack m ack moment answer) (Hear (Ok (AckMessage ack)) moment answer ∷ past)
   heard_stands m past ack moment (Ignored why) s is = (stands_quiet codec m past (Hear (Ok (AckMessage ack)) moment (Ignored why)) s is (quiet_ignored past (Ok (AckMessage ack)) moment why)).1
   heard_stands m past ack moment (Heard numbers) s is =
       let t = record (summary past) { acknowledged = acknowledged (Hear (Ok (AckMessage ack)) moment (Heard numbers) ∷ past); heard = heard (Hear (Ok (AckMessage ack)) moment (Heard numbers) ∷ past); average = average (Hear (Ok (AckMessage ack)) moment (Heard numbers) ∷ past); heard_at = heard_at (Hear (Ok (AckMessage ack)) moment (Heard numbers) ∷ past); now = max moment (now past) } in
@@ -211,11 +212,11 @@ module _ {S : Type 0} (codec : Coding S) where
       record { legal = (is, s.legal); keeps = subst (λ x. Keeps codec (after_ack m ack moment (Heard numbers)) x) (sym e) (keeps_heard m past ack moment numbers s.keeps) }
 
   -- a sender takes an acknowledgement
-  pub ack_taken : (m new : Machine S) (past : Past) (ack : Ack) (moment : ℕ) (answer : HeardAck) (bytes : Result Message WireFault) → Stands codec m past → answer ≡ ack_answer_in m ack → new ≡ after_ack m ack moment answer → Ok (AckMessage ack) ≡ bytes → (answer ≡ heard_answer codec m.session past bytes) × Stands codec new (Hear bytes moment answer ∷ past)
+  pub ack_taken : (m new : Machine S) (past : Past) (ack : Ack) (moment : ℕ) (answer : HeardAck) (bytes : Result Message WireFault) → SenderStands codec m past → answer ≡ ack_answer_in m ack → new ≡ after_ack m ack moment answer → Ok (AckMessage ack) ≡ bytes → (answer ≡ heard_answer codec m.session past bytes) × SenderStands codec new (Hear bytes moment answer ∷ past)
   ack_taken m new past ack moment answer bytes s is after came =
       let says : answer ≡ ack_answer codec m.session past ack = is ∙ judged_is codec m past ack s.keeps (chained_of_legal codec m.session past s.legal) in
-      let stands : Stands codec new (Hear (Ok (AckMessage ack)) moment answer ∷ past) = subst (λ v. Stands codec v (Hear (Ok (AckMessage ack)) moment answer ∷ past)) (sym after) (heard_stands m past ack moment answer s says) in
-      subst (λ b. (answer ≡ heard_answer codec m.session past b) × Stands codec new (Hear b moment answer ∷ past)) came (says, stands)
+      let stands : SenderStands codec new (Hear (Ok (AckMessage ack)) moment answer ∷ past) = subst (λ v. SenderStands codec v (Hear (Ok (AckMessage ack)) moment answer ∷ past)) (sym after) (heard_stands m past ack moment answer s says) in
+      subst (λ b. (answer ≡ heard_answer codec m.session past b) × SenderStands codec new (Hear b moment answer ∷ past)) came (says, stands)
 
 -- a datagram that is an acknowledgement
 pub came_ack : (d : Datagram) (ack : Ack) (bytes : Result Message WireFault) → d ≡ AckData ack → ◌≡◌ {A = Result Message WireFault} (Ok (message_of d)) bytes → ◌≡◌ {A = Result Message WireFault} (Ok (AckMessage ack)) bytes

@@ -6,7 +6,8 @@ use Rattle.sal_base.specs.Lists.{Has}
 use Rattle.sal_wire.specs.Fields.{FragmentFields}
 use Rattle.sal_codec.specs.Coding.{Coding}
 use Rattle.sal_sender.specs.declared.choice.Choice.{Choice}
-use Rattle.sal_sender.specs.Chain.{name_in, made_at, state, target_of, NamesDiffer}
+use Rattle.sal_chain.specs.Held.{name_in}
+use Rattle.sal_sender.specs.Chain.{made_at, state, target_of, NamesDiffer}
 use Rattle.sal_sender.specs.OneThread.{Session, one_thread, burst_after}
 use Rattle.sal_sender.specs.Sound.{AreChained}
 use Rattle.sal_sender.proofs.Thread.{ArePicturesOf, state_before}

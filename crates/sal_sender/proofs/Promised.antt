@@ -1,15 +1,15 @@
 -- The promises of every list of calls, one call further.
 use Rattle.std.proofs.Common.{◌∷◌}
 use Rattle.sal_codec.specs.Coding.{Coding}
-use Rattle.sal_sender.specs.Past.{Call, Past}
+use Rattle.sal_sender.specs.Past.{SenderCall, Past}
 use Rattle.sal_sender.specs.OneThread.{Session}
-use Rattle.sal_sender.specs.Promises.{Answers, IsLegal, SenderPromises}
+use Rattle.sal_sender.specs.Promises.{SenderAnswers, IsLegalSender, SenderPromises}
 use Rattle.sal_sender.proofs.Thread.{thread}
 use Rattle.sal_sender.proofs.Budgets.{budget_of_legal}
 use Rattle.sal_sender.proofs.Sound.{sound}
 
 module _ {S : Type 0} (codec : Coding S) (session : Session) where
-  pub promises : (past : Past) → IsLegal codec session past → SenderPromises codec session past
+  pub promises : (past : Past) → IsLegalSender codec session past → SenderPromises codec session past
   promises past legal = record {
     sent = thread codec session past legal;
     budget = budget_of_legal codec session past legal;
@@ -17,5 +17,5 @@ module _ {S : Type 0} (codec : Coding S) (session : Session) where
   }
 
   -- a call that is answered as it may be
-  pub promised : (call : Call) (past : Past) → IsLegal codec session past → Answers codec session call past → SenderPromises codec session (call ∷ past)
+  pub promised : (call : SenderCall) (past : Past) → IsLegalSender codec session past → SenderAnswers codec session call past → SenderPromises codec session (call ∷ past)
   promised call past legal answers = promises (call ∷ past) (answers, legal)

@@ -11,10 +11,10 @@ use Rattle.sal_sender.specs.declared.answers.Reported.TheVariants.{Stranger}
 use Rattle.sal_sender.specs.declared.answers.Ignore.{Ignore}
 use Rattle.sal_sender.specs.declared.answers.HeardAck.TheVariants.{Ignored}
 use Rattle.sal_sender.specs.declared.answers.Chosen.TheVariants.{NoPicture, Waiting, Memory}
-use Rattle.sal_sender.specs.Past.{Call, Past, NextPicture, TakeJob, Report, Choose, Hear, pictures, datagrams, last_job, now, sent}
-use Rattle.sal_sender.specs.Promises.{Answers}
+use Rattle.sal_sender.specs.Past.{SenderCall, Past, NextPicture, TakeJob, Report, Choose, Hear, pictures, datagrams, last_job, now, sent}
+use Rattle.sal_sender.specs.Promises.{SenderAnswers}
 use Rattle.sal_sender.specs.Machine.{Machine}
-use Rattle.sal_sender.specs.Stands.{Summary, summary, Keeps, Stands}
+use Rattle.sal_sender.specs.Stands.{Summary, summary, Keeps, SenderStands}
 
 -- with other pictures, moment, count of datagrams and number of the last job
 abbrev pub with_parts : Summary → List Picture → ℕ → ℕ → ℕ → Summary
@@ -61,5 +61,5 @@ quiet_ignored past (Ok (AckMessage a)) moment why = quiet_parts past
 quiet_ignored past (Ok (ByeMessage n l)) moment why = quiet_parts past
 
 -- a sender stands for one more call that left it as it was
-pub stands_quiet : {S : Type 0} (codec : Coding S) (m : Machine S) (past : Past) (call : Call) → Stands codec m past → Answers codec m.session call past → summary (call ∷ past) ≡ summary past → Answers codec m.session call past × Stands codec m (call ∷ past)
+pub stands_quiet : {S : Type 0} (codec : Coding S) (m : Machine S) (past : Past) (call : SenderCall) → SenderStands codec m past → SenderAnswers codec m.session call past → summary (call ∷ past) ≡ summary past → SenderAnswers codec m.session call past × SenderStands codec m (call ∷ past)
 stands_quiet codec m past call s a e = (a, record { legal = (a, s.legal); keeps = subst (λ x. Keeps codec m x) (sym e) s.keeps })

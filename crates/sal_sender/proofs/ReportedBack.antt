@@ -21,7 +21,7 @@ use Rattle.sal_sender.specs.Candidates.{candidate_with, is_candidate_of, is_job_
 use Rattle.sal_sender.specs.JobWork.{JobWork, JobReport}
 use Rattle.sal_sender.specs.Sending.{after_report}
 use Rattle.sal_sender.specs.Machine.{Machine, KeepsAllButOutstanding, flag}
-use Rattle.sal_sender.specs.Stands.{Summary, summary, work_in, candidate_in, spare_in, open_in, IsWorkOfItsJob, Keeps, Stands}
+use Rattle.sal_sender.specs.Stands.{Summary, summary, work_in, candidate_in, spare_in, open_in, IsWorkOfItsJob, Keeps, SenderStands}
 use Rattle.sal_sender.proofs.Quiet.{parts_stay, quiet_stranger, stands_quiet}
 use Rattle.sal_sender.proofs.HandedOut.{flag_marked}
 
@@ -226,7 +226,7 @@ module _ {S : Type 0} (codec : Coding S) where
   answer_is past id b outstanding known = rw (outstanding, known) refl
 
   -- what a report of a job that is out does
-  reported_back : (m : Machine S) (past : Past) (work : JobWork S) (gave : Gave) (open_picture : Option (OpenPicture (JobReport S))) (outstanding : List Bool) (b : Bool) → Stands codec m past → flag m.outstanding work.id ≡ true → outstanding ≡ set m.outstanding work.id false → is_open_job work.id m.open_picture ≡ b → open_picture ≡ option_map (with_report work.id (record { work = work; gave = gave })) m.open_picture → IsWorkOfItsJob codec past work → cond b Kept Late ≡ report_answer past work.id → Stands codec (with_seats m open_picture outstanding) (Report work.id gave (cond b Kept Late) ∷ past)
+  reported_back : (m : Machine S) (past : Past) (work : JobWork S) (gave : Gave) (open_picture : Option (OpenPicture (JobReport S))) (outstanding : List Bool) (b : Bool) → SenderStands codec m past → flag m.outstanding work.id ≡ true → outstanding ≡ set m.outstanding work.id false → is_open_job work.id m.open_picture ≡ b → open_picture ≡ option_map (with_report work.id (record { work = work; gave = gave })) m.open_picture → IsWorkOfItsJob codec past work → cond b Kept Late ≡ report_answer past work.id → SenderStands codec (with_seats m open_picture outstanding) (Report work.id gave (cond b Kept Late) ∷ past)
   reported_back m past work gave open_picture outstanding true s on marked known told own answer =
       let t = record (summary past) { reported = reported (Report work.id gave Kept ∷ past); is_outstanding = is_outstanding (Report work.id gave Kept ∷ past) } in
       let seated : open_picture ≡ option_map (open_in codec t) (opened past) = told ∙ (ap (option_map (with_report work.id (record { work = work; gave = gave }))) s.keeps.open_is ∙ kept_seats (summary past) t (opened past) work.id work gave refl refl (λ j. reported_more work.id gave past j) own) in
@@ -240,9 +240,9 @@ module _ {S : Type 0} (codec : Coding S) where
       record { legal = (answer, s.legal); keeps = subst (λ x. Keeps codec (with_seats m open_picture outstanding) x) (sym (parts_stay t past refl refl refl refl)) k }
 
   -- of a report whose job is out: its answer, and what the sender stands for then
-  pub report_taken : (inside m : Machine S) (past : Past) (work : JobWork S) (gave : Gave) (id : ℕ) (open_picture : Option (OpenPicture (JobReport S))) (outstanding : List Bool) (b : Bool) (answer : Reported) → inside ≡ m → Stands codec m past → id ≡ work.id → true ≡ flag inside.outstanding id → outstanding ≡ set inside.outstanding id false → b ≡ is_open_job id inside.open_picture → open_picture ≡ option_map (with_report id (record { work = work; gave = gave })) inside.open_picture → answer ≡ cond b Kept Late → (answer ≡ report_answer past work.id) × (IsWorkOfItsJob codec past work → Stands codec (with_seats inside open_picture outstanding) (Report work.id gave answer ∷ past))
+  pub report_taken : (inside m : Machine S) (past : Past) (work : JobWork S) (gave : Gave) (id : ℕ) (open_picture : Option (OpenPicture (JobReport S))) (outstanding : List Bool) (b : Bool) (answer : Reported) → inside ≡ m → SenderStands codec m past → id ≡ work.id → true ≡ flag inside.outstanding id → outstanding ≡ set inside.outstanding id false → b ≡ is_open_job id inside.open_picture → open_picture ≡ option_map (with_report id (record { work = work; gave = gave })) inside.open_picture → answer ≡ cond b Kept Late → (answer ≡ report_answer past work.id) × (IsWorkOfItsJob codec past work → SenderStands codec (with_seats inside open_picture outstanding) (Report work.id gave answer ∷ past))
   report_taken inside m past work gave id open_picture outstanding b answer view s own on marked known told is =
-      let s' : Stands codec inside past = subst (λ v. Stands codec v past) (sym view) s in
+      let s' : SenderStands codec inside past = subst (λ v. SenderStands codec v past) (sym view) s in
       let on' : flag inside.outstanding work.id ≡ true = ap (flag inside.outstanding) (sym own) ∙ sym on in
       let there : is_outstanding past work.id ≡ true = sym (s'.keeps.outstanding_are work.id) ∙ on' in
       let known' : is_open_job work.id inside.open_picture ≡ b = ap (λ i. is_open_job i inside.open_picture) (sym own) ∙ sym known in
@@ -250,10 +250,10 @@ module _ {S : Type 0} (codec : Coding S) where
       let says : report_answer past work.id ≡ cond b Kept Late = answer_is past work.id b there same in
       let marked' : outstanding ≡ set inside.outstanding work.id false = marked ∙ ap (λ i. set inside.outstanding i false) own in
       let told' : open_picture ≡ option_map (with_report work.id (record { work = work; gave = gave })) inside.open_picture = told ∙ ap (λ i. option_map (with_report i (record { work = work; gave = gave })) inside.open_picture) own in
-      (is ∙ sym says, λ mine. subst (λ a. Stands codec (with_seats inside open_picture outstanding) (Report work.id gave a ∷ past)) (sym is) (reported_back inside past work gave open_picture outstanding b s' on' marked' known' told' mine (sym says)))
+      (is ∙ sym says, λ mine. subst (λ a. SenderStands codec (with_seats inside open_picture outstanding) (Report work.id gave a ∷ past)) (sym is) (reported_back inside past work gave open_picture outstanding b s' on' marked' known' told' mine (sym says)))
 
   -- of a report whose job isn't out
-  pub report_refused : (m : Machine S) (past : Past) (work : JobWork S) (gave : Gave) (id : ℕ) (outstanding : List Bool) → Stands codec m past → outstanding ≡ m.outstanding → id ≡ work.id → false ≡ flag outstanding id → (Stranger ≡ report_answer past work.id) × Stands codec m (Report work.id gave Stranger ∷ past)
+  pub report_refused : (m : Machine S) (past : Past) (work : JobWork S) (gave : Gave) (id : ℕ) (outstanding : List Bool) → SenderStands codec m past → outstanding ≡ m.outstanding → id ≡ work.id → false ≡ flag outstanding id → (Stranger ≡ report_answer past work.id) × SenderStands codec m (Report work.id gave Stranger ∷ past)
   report_refused m past work gave id outstanding s same own off =
       let gone : is_outstanding past work.id ≡ false = sym (s.keeps.outstanding_are work.id) ∙ (ap (flag m.outstanding) (sym own) ∙ (ap (λ xs. flag xs id) (sym same) ∙ sym off)) in
       let says : Stranger ≡ report_answer past work.id = rw gone refl in

@@ -26,7 +26,7 @@ use Rattle.sal_sender.specs.declared.prepared_frame.PreparedFrame.{PreparedFrame
 use Rattle.sal_sender.proofs.Picks.{frame_sound}
 use Rattle.sal_sender.specs.declared.outcome.Outcome.{Outcome}
 use Rattle.sal_sender.specs.declared.outcome.Outcome.TheVariants.{Frame, Oversize, NoMemory}
-use Rattle.sal_sender.specs.Chain.{name_in}
+use Rattle.sal_chain.specs.Held.{name_in}
 use Rattle.sal_sender.specs.OneThread.{Session, burst_of}
 use Rattle.sal_sender.specs.Choosing.{size_of, datagram_count}
 use Rattle.sal_sender.specs.Selecting.{fits_in, has_fit, size_in}

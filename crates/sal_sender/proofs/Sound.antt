@@ -15,7 +15,7 @@ use Rattle.sal_sender.specs.Acks.{acknowledged, safe, lost}
 use Rattle.sal_sender.specs.Jobs.{Job, base, plan, jobs}
 use Rattle.sal_sender.specs.declared.choice.JobRole.TheVariants.{Coarse, Spare, Fine}
 use Rattle.sal_sender.specs.Answers.{jobs_after}
-use Rattle.sal_sender.specs.Promises.{IsLegal}
+use Rattle.sal_sender.specs.Promises.{IsLegalSender}
 use Rattle.sal_sender.specs.Sound.{IsFrom, HasFloor, Follows, AreChained, IsSound}
 use Rattle.sal_sender.proofs.Thread.{IsChosen, chosen_is, find_has, has_filter, filter_true}
 
@@ -176,7 +176,7 @@ module _ {S : Type 0} (codec : Coding S) (session : Session) where
       })
 
   -- the choices of every legal past are chained
-  pub chained_of_legal : (past : Past) → IsLegal codec session past → AreChained (choices past)
+  pub chained_of_legal : (past : Past) → IsLegalSender codec session past → AreChained (choices past)
   chained_of_legal [] legal = tt
   chained_of_legal (NextPicture picture moment answer ∷ past) legal = chained_of_legal past legal.1
   chained_of_legal (TakeJob answer ∷ past) legal = chained_of_legal past legal.1
@@ -201,10 +201,10 @@ module _ {S : Type 0} (codec : Coding S) (session : Session) where
       (near.0, (let p : job.source ≤ length (choices past) = near.1 in omega arith)))
       (jobs before) (planned before)
 
-  pub sound_of_legal : (past : Past) → IsLegal codec session past → IsSound past
+  pub sound_of_legal : (past : Past) → IsLegalSender codec session past → IsSound past
   sound_of_legal past legal =
       let chained = chained_of_legal past legal in
       record { chained = chained; jobs_from = open_from past (opened past) refl chained }
 
-pub sound : {S : Type 0} (codec : Coding S) (session : Session) (past : Past) → IsLegal codec session past → IsSound past
+pub sound : {S : Type 0} (codec : Coding S) (session : Session) (past : Past) → IsLegalSender codec session past → IsSound past
 sound codec session past legal = sound_of_legal codec session past legal

@@ -15,13 +15,14 @@ use Rattle.sal_sender.specs.declared.answers.Next.TheVariants.{Started, NotChose
 use Rattle.sal_sender.specs.declared.answers.Reported.TheVariants.{Stranger, Late, Kept as KeptReport}
 use Rattle.sal_sender.specs.declared.answers.Chosen.TheVariants.{NoPicture, Waiting, Sent, Nothing, Memory}
 use Rattle.sal_sender.specs.Past.{Past, NextPicture, TakeJob, Report, Choose, Hear, choices, pictures, datagrams, opened, started, last_job, now, tip, tip_of, floor, floor_of, quantiser}
-use Rattle.sal_sender.specs.Chain.{name_in, state, picture_at, target_of}
+use Rattle.sal_chain.specs.Held.{name_in}
+use Rattle.sal_sender.specs.Chain.{state, picture_at, target_of}
 use Rattle.sal_sender.specs.OneThread.{Session}
 use Rattle.sal_sender.specs.Acks.{acknowledged, safe, lost, heard}
 use Rattle.sal_sender.specs.Jobs.{Job, kind_of, jobs, base, needs_spare, coarse_job, spare_job, fine_job}
 use Rattle.sal_sender.specs.Choosing.{reported, first_in}
 use Rattle.sal_sender.specs.Answers.{jobs_after, starts, next_answer, is_taken, is_outstanding, waiting_jobs}
-use Rattle.sal_sender.specs.Promises.{IsLegal}
+use Rattle.sal_sender.specs.Promises.{IsLegalSender}
 use Rattle.sal_sender.specs.SentFrames.{sent_frames_of, choices_from}
 use Rattle.sal_sender.specs.Planned.{safe_of, base_of, plan_of, open_picture_of, kind_from, state_from, work_from, queue_of, after_start}
 use Rattle.sal_sender.specs.Candidates.{queued}
@@ -31,7 +32,7 @@ use Rattle.sal_sender.specs.JobWork.{JobWork, JobReport}
 use Rattle.sal_sender.specs.declared.open_picture.OpenPicture.{OpenPicture}
 use Rattle.sal_base.specs.declared.coding.Kind.{Kind}
 use Rattle.sal_sender.specs.Machine.{Machine, flag}
-use Rattle.sal_sender.specs.Stands.{Summary, summary, work_in, candidate_in, spare_in, open_in, kept_in, Keeps, Stands}
+use Rattle.sal_sender.specs.Stands.{Summary, summary, work_in, candidate_in, spare_in, open_in, kept_in, Keeps, SenderStands}
 use Rattle.sal_sender.proofs.Thread.{state_before, thread_of_legal}
 use Rattle.sal_sender.proofs.Older.{zero_none}
 use Rattle.sal_sender.proofs.Sound.{IsNear, base_from, safe_from, chained_of_legal, tip_is}
@@ -63,7 +64,7 @@ kept_answer false b h = absurd (cc)
 
 module _ {S : Type 0} (codec : Coding S) (session : Session) where
   -- the jobs of the open picture are none above the last
-  opened_low : (past : Past) → IsLegal codec session past → Each (λ j. j.id ≤ last_job past) (jobs_after (opened past))
+  opened_low : (past : Past) → IsLegalSender codec session past → Each (λ j. j.id ≤ last_job past) (jobs_after (opened past))
   opened_low [] legal = tt
   opened_low (NextPicture picture moment (Started n) ∷ past) legal = ids_low codec session (NextPicture picture moment (Started n) ∷ past) legal
   opened_low (NextPicture picture moment (NotChosen n) ∷ past) legal = wider _ _ _ (omega arith) (opened_low past legal.1)
@@ -79,7 +80,7 @@ module _ {S : Type 0} (codec : Coding S) (session : Session) where
   opened_low (Choose moment Memory ∷ past) legal = wider _ _ _ (omega arith) (opened_low past legal.1)
 
   -- nothing above the last job was reported
-  reported_none : (past : Past) (id : ℕ) → IsLegal codec session past → last_job past < id → reported past id ≡ None
+  reported_none : (past : Past) (id : ℕ) → IsLegalSender codec session past → last_job past < id → reported past id ≡ None
   reported_none [] id legal high = refl
   reported_none (NextPicture picture moment answer ∷ past) id legal high = reported_none past id legal.1 (omega (arith, high))
   reported_none (TakeJob answer ∷ past) id legal high = reported_none past id legal.1 (omega (arith, high))
@@ -94,7 +95,7 @@ module _ {S : Type 0} (codec : Coding S) (session : Session) where
       rw other (reported_none past id legal.1 (omega (arith, high)))
 
   -- nothing above the last job was handed out
-  taken_none : (past : Past) (id : ℕ) → IsLegal codec session past → last_job past < id → is_taken past id ≡ false
+  taken_none : (past : Past) (id : ℕ) → IsLegalSender codec session past → last_job past < id → is_taken past id ≡ false
   taken_none [] id legal high = refl
   taken_none (NextPicture picture moment answer ∷ past) id legal high = taken_none past id legal.1 (omega (arith, high))
   taken_none (TakeJob None ∷ past) id legal high = taken_none past id legal.1 (omega (arith, high))
@@ -106,7 +107,7 @@ module _ {S : Type 0} (codec : Coding S) (session : Session) where
   taken_none (Hear came moment answer ∷ past) id legal high = taken_none past id legal.1 (omega (arith, high))
   taken_none (Report job gave answer ∷ past) id legal high = taken_none past id legal.1 (omega (arith, high))
 
-  all_wait : (past : Past) (least : ℕ) (js : List Job) → IsLegal codec session past → last_job past < least → IsRising least js → filter (λ j. not (is_taken past j.id)) js ≡ js
+  all_wait : (past : Past) (least : ℕ) (js : List Job) → IsLegalSender codec session past → last_job past < least → IsRising least js → filter (λ j. not (is_taken past j.id)) js ≡ js
   all_wait past least [] legal high r = refl
   all_wait past least (j ∷ js) legal high r =
       let a : least ≤ j.id = r.0 in
@@ -156,10 +157,10 @@ module _ {S : Type 0} (codec : Coding S) where
     waiting = jobs past;
   }
 
-  seat_empty : (session : Session) (past : Past) (picture : Picture) (moment : ℕ) (job : Job) → IsLegal codec session past → last_job past < job.id → record { id = job.id; role = job.role; source = job.source; q = job.q; report = None } ≡ candidate_in codec (begun past picture moment) job
+  seat_empty : (session : Session) (past : Past) (picture : Picture) (moment : ℕ) (job : Job) → IsLegalSender codec session past → last_job past < job.id → record { id = job.id; role = job.role; source = job.source; q = job.q; report = None } ≡ candidate_in codec (begun past picture moment) job
   seat_empty session past picture moment job legal high = rw (reported_none codec session past job.id legal high) refl
 
-  spare_empty : (b : Bool) (session : Session) (past : Past) (picture : Picture) (moment : ℕ) (job : Job) → IsLegal codec session past → last_job past < job.id → cond b (Some (record { id = job.id; role = job.role; source = job.source; q = job.q; report = None })) None ≡ spare_in codec b (begun past picture moment) job
+  spare_empty : (b : Bool) (session : Session) (past : Past) (picture : Picture) (moment : ℕ) (job : Job) → IsLegalSender codec session past → last_job past < job.id → cond b (Some (record { id = job.id; role = job.role; source = job.source; q = job.q; report = None })) None ≡ spare_in codec b (begun past picture moment) job
   spare_empty true session past picture moment job legal high = ap (λ s. Some s) (seat_empty session past picture moment job legal high)
   spare_empty false session past picture moment job legal high = refl
 
@@ -167,7 +168,7 @@ module _ {S : Type 0} (codec : Coding S) where
   fine_high true last = omega arith
   fine_high false last = omega arith
 
-  seats_are : (session : Session) (past : Past) (picture : Picture) (moment : ℕ) → IsLegal codec session past → open_picture_of (past_plan past) ≡ open_in codec (begun past picture moment) past
+  seats_are : (session : Session) (past : Past) (picture : Picture) (moment : ℕ) → IsLegalSender codec session past → open_picture_of (past_plan past) ≡ open_in codec (begun past picture moment) past
   seats_are session past picture moment legal =
       open_parts _ _ _ _ _ _ _
       (seat_empty session past picture moment (coarse_job (last_job past + 1) (base past) (quantiser past)) legal (omega arith))
@@ -205,7 +206,7 @@ module _ {S : Type 0} (codec : Coding S) where
   work_parts id picture picture' role q kind kind' source source' samples samples' a b c d = cc
 
   -- a job by what is kept
-  work_is : (m : Machine S) (past : Past) (picture : Picture) (job : Job) → Stands codec m past → IsNear (choices past) job.source → work_from codec m picture job.id job.role job.source job.q ≡ work_in codec (pictures past ++ picture ∷ []) (choices past) job
+  work_is : (m : Machine S) (past : Past) (picture : Picture) (job : Job) → SenderStands codec m past → IsNear (choices past) job.source → work_from codec m picture job.id job.role job.source job.q ≡ work_in codec (pictures past ++ picture ∷ []) (choices past) job
   work_is m past picture job s near =
       let chained = chained_of_legal codec m.session past s.legal in
       let same : state codec (pictures past ++ picture ∷ []) (choices past) job.source ≡ state codec (pictures past) (choices past) job.source = state_before codec (pictures past) (picture ∷ []) (choices past) job.source (thread_of_legal codec m.session past s.legal).shot in
@@ -220,7 +221,7 @@ module _ {S : Type 0} (codec : Coding S) where
   listed_step true c p f x y fine first work a d e = rw (a, d, e) refl
   listed_step false c p f x y fine first work a d e = rw (a, e) refl
 
-  queue_is : (m : Machine S) (past : Past) (picture : Picture) → Stands codec m past → queued (queue_of codec m picture (past_plan codec past)) ≡ map (work_in codec (pictures past ++ picture ∷ []) (choices past)) (jobs past)
+  queue_is : (m : Machine S) (past : Past) (picture : Picture) → SenderStands codec m past → queued (queue_of codec m picture (past_plan codec past)) ≡ map (work_in codec (pictures past ++ picture ∷ []) (choices past)) (jobs past)
   queue_is m past picture s =
       let chained = chained_of_legal codec m.session past s.legal in
       let spared : Bool = needs_spare (base past) (safe past) (tip past) in
@@ -245,7 +246,7 @@ count_step true c p f g = refl
 count_step false c p f g = refl
 
 module _ {S : Type 0} (codec : Coding S) where
-  keeps_started : (m : Machine S) (past : Past) (picture : Picture) (moment : ℕ) → Stands codec m past → Keeps codec (after_start codec m picture moment) (begun codec past picture moment)
+  keeps_started : (m : Machine S) (past : Past) (picture : Picture) (moment : ℕ) → SenderStands codec m past → Keeps codec (after_start codec m picture moment) (begun codec past picture moment)
   keeps_started m past picture moment s =
       let k = s.keeps in
       let chained = chained_of_legal codec m.session past s.legal in
@@ -279,9 +280,9 @@ module _ {S : Type 0} (codec : Coding S) where
       go (Some before) e q = absurd (cc)
 
   -- a sender starts a picture
-  pub start_taken : (inside m : Machine S) (past : Past) (picture : Picture) (moment : ℕ) (count : ℕ) → inside ≡ m → Stands codec m past → inside.open_picture ≡ None → inside.pictures ≢ 1048575 → count ≡ Rattle.sal_sender.specs.Planned.job_count (plan_of inside) → (Started count ≡ next_answer past) × Stands codec (after_start codec inside picture moment) (NextPicture picture moment (Started count) ∷ past)
+  pub start_taken : (inside m : Machine S) (past : Past) (picture : Picture) (moment : ℕ) (count : ℕ) → inside ≡ m → SenderStands codec m past → inside.open_picture ≡ None → inside.pictures ≢ 1048575 → count ≡ Rattle.sal_sender.specs.Planned.job_count (plan_of inside) → (Started count ≡ next_answer past) × SenderStands codec (after_start codec inside picture moment) (NextPicture picture moment (Started count) ∷ past)
   start_taken inside m past picture moment count view s' free few own =
-      let s : Stands codec inside past = subst (λ v. Stands codec v past) (sym view) s' in
+      let s : SenderStands codec inside past = subst (λ v. SenderStands codec v past) (sym view) s' in
       let chained = chained_of_legal codec inside.session past s.legal in
       let plan : plan_of inside ≡ past_plan codec past = plan_is codec inside past s.keeps chained in
       let counted : count ≡ length (jobs past) = own ∙ (ap (λ (p : JobPlan). cond p.has_spare 3 2) plan ∙ count_step (needs_spare (base past) (safe past) (tip past)) _ _ _ _) in
@@ -291,8 +292,8 @@ module _ {S : Type 0} (codec : Coding S) where
       let t = begun codec past picture moment in
       let waits : waiting_jobs (NextPicture picture moment (Started (length (jobs past))) ∷ past) ≡ jobs past = all_wait codec inside.session past (last_job past + 1) (jobs past) s.legal (omega arith) (jobs_rising past) in
       let whole : summary (NextPicture picture moment (Started (length (jobs past))) ∷ past) ≡ t = started_summary past picture moment waits in
-      let both : (Started (length (jobs past)) ≡ next_answer past) × Stands codec (after_start codec inside picture moment) (NextPicture picture moment (Started (length (jobs past))) ∷ past) = (says, record { legal = (inl says, s.legal); keeps = subst (λ x. Keeps codec (after_start codec inside picture moment) x) (sym whole) (keeps_started inside past picture moment s) }) in
-      subst (λ n. (Started n ≡ next_answer past) × Stands codec (after_start codec inside picture moment) (NextPicture picture moment (Started n) ∷ past)) (sym counted) both
+      let both : (Started (length (jobs past)) ≡ next_answer past) × SenderStands codec (after_start codec inside picture moment) (NextPicture picture moment (Started (length (jobs past))) ∷ past) = (says, record { legal = (inl says, s.legal); keeps = subst (λ x. Keeps codec (after_start codec inside picture moment) x) (sym whole) (keeps_started inside past picture moment s) }) in
+      subst (λ n. (Started n ≡ next_answer past) × SenderStands codec (after_start codec inside picture moment) (NextPicture picture moment (Started n) ∷ past)) (sym counted) both
     where
       started_summary : (p : Past) (picture : Picture) (moment : ℕ) → waiting_jobs (NextPicture picture moment (Started (length (jobs p))) ∷ p) ≡ jobs p → summary (NextPicture picture moment (Started (length (jobs p))) ∷ p) ≡ begun codec p picture moment
       started_summary p picture moment w =
@@ -303,13 +304,13 @@ none_if b None e h = refl
 none_if b (Some x) e h = absurd (let q : true ≡ false = sym e ∙ h in cc)
 
 -- of a started picture, with what the sender was
-pub start_answered : {S : Type 0} (codec : Coding S) (m new : Machine S) (inside : Option (OpenPicture (JobReport S))) (past : Past) (picture : Picture) (moment count : ℕ) (b : Bool) → Stands codec m past → inside ≡ m.open_picture → b ≡ is_some inside → b ≡ false → m.pictures < 1048575 → count ≡ Rattle.sal_sender.specs.Planned.job_count (plan_of m) → new ≡ after_start codec m picture moment → ((Started count ≡ next_answer past) ⊎ (Started count ≡ NextMemory)) × Stands codec new (NextPicture picture moment (Started count) ∷ past)
+pub start_answered : {S : Type 0} (codec : Coding S) (m new : Machine S) (inside : Option (OpenPicture (JobReport S))) (past : Past) (picture : Picture) (moment count : ℕ) (b : Bool) → SenderStands codec m past → inside ≡ m.open_picture → b ≡ is_some inside → b ≡ false → m.pictures < 1048575 → count ≡ Rattle.sal_sender.specs.Planned.job_count (plan_of m) → new ≡ after_start codec m picture moment → ((Started count ≡ next_answer past) ⊎ (Started count ≡ NextMemory)) × SenderStands codec new (NextPicture picture moment (Started count) ∷ past)
 start_answered codec m new inside past picture moment count b s view told shut few own after =
     let both = start_taken codec m m past picture moment count refl s (sym view ∙ none_if b inside told shut) (λ (q : m.pictures ≡ 1048575). omega arith) own in
-    (inl both.0, subst (λ v. Stands codec v (NextPicture picture moment (Started count) ∷ past)) (sym after) both.1)
+    (inl both.0, subst (λ v. SenderStands codec v (NextPicture picture moment (Started count) ∷ past)) (sym after) both.1)
 
 -- of a picture that isn't started for want of memory
-pub may_start : {S : Type 0} (codec : Coding S) (m : Machine S) (inside : Option (OpenPicture (JobReport S))) (past : Past) (b : Bool) → Stands codec m past → inside ≡ m.open_picture → b ≡ is_some inside → b ≡ false → m.pictures < 1048575 → starts (next_answer past) ≡ true
+pub may_start : {S : Type 0} (codec : Coding S) (m : Machine S) (inside : Option (OpenPicture (JobReport S))) (past : Past) (b : Bool) → SenderStands codec m past → inside ≡ m.open_picture → b ≡ is_some inside → b ≡ false → m.pictures < 1048575 → starts (next_answer past) ≡ true
 may_start codec m inside past b s view told shut few =
     let free : opened past ≡ None = none_open codec past m s.keeps (sym view ∙ none_if b inside told shut) in
     let count : m.pictures ≡ length (pictures past) = s.keeps.pictures_is in

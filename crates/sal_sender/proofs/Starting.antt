@@ -11,7 +11,7 @@ use Rattle.sal_codec.specs.Coding.{Coding, MayEncode, HasSides}
 use Rattle.sal_chain.specs.declared.stored_state.StoredState.{StoredState}
 use Rattle.sal_chain.specs.Held.{with_number}
 use Rattle.sal_chain.specs.Shares.{name_and_state}
-use Rattle.sal_sender.specs.Chain.{name_in}
+use Rattle.sal_chain.specs.Held.{name_in}
 use Rattle.sal_sender.specs.Machine.{Machine, IsOwnState, IsWell}
 
 -- the numbers of the next jobs fit

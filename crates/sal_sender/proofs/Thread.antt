@@ -25,7 +25,7 @@ use Rattle.sal_sender.specs.Chain.{picture_at, made_from, target_of, made_at, ma
 use Rattle.sal_sender.specs.OneThread.{Session, burst_after, one_thread}
 use Rattle.sal_sender.specs.Jobs.{Job, jobs, kind_of}
 use Rattle.sal_sender.specs.Choosing.{SizedJob, eligible, size_of, is_spare, is_fine, is_coarse, choice_of, datagram_count, candidate_fits, may_send, candidates, needed, lost_since, reported, choose_found, choose_reported, choose_needed, choose_opened, chosen}
-use Rattle.sal_sender.specs.Promises.{IsLegal, IsWhatOneThreadSends}
+use Rattle.sal_sender.specs.Promises.{IsLegalSender, IsWhatOneThreadSends}
 
 -- each choice's picture is one of the first so many
 abbrev pub ArePicturesOf : ℕ → List Choice → Type 0
@@ -262,7 +262,7 @@ module _ {S : Type 0} (codec : Coding S) (session : Session) where
             ∙ sym (ap (λ es. map fragment_bytes es) (thread_before codec session (pictures past) [] (choice ∷ choices past) shot)));
       }
 
-  pub thread_of_legal : (past : Past) → IsLegal codec session past → IsThreaded past
+  pub thread_of_legal : (past : Past) → IsLegalSender codec session past → IsThreaded past
   unfolding one_thread
   thread_of_legal [] legal = record { shot = tt; thread = refl }
   thread_of_legal (NextPicture picture moment answer ∷ past) legal = let t = thread_of_legal past legal.1 in record { shot = wider past (picture_in (NextPicture picture moment answer)) t; thread = quiet past (picture_in (NextPicture picture moment answer)) t }
@@ -275,5 +275,5 @@ module _ {S : Type 0} (codec : Coding S) (session : Session) where
   thread_of_legal (Choose moment Memory ∷ past) legal = let t = thread_of_legal past legal.1 in record { shot = wider past [] t; thread = quiet past [] t }
   thread_of_legal (Choose moment (Sent choice burst) ∷ past) legal = chose past moment (max (now past) moment) choice burst (chosen_is past moment choice burst legal.0) (thread_of_legal past legal.1)
 
-  pub thread : (past : Past) → IsLegal codec session past → IsWhatOneThreadSends codec session past
+  pub thread : (past : Past) → IsLegalSender codec session past → IsWhatOneThreadSends codec session past
   thread past legal = (thread_of_legal past legal).thread

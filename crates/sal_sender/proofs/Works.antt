@@ -14,7 +14,7 @@ use Rattle.sal_sender.specs.OneThread.{Session}
 use Rattle.sal_sender.specs.Jobs.{Job, jobs}
 use Rattle.sal_sender.specs.Choosing.{first_in, first_some}
 use Rattle.sal_sender.specs.Answers.{jobs_after, is_taken, waiting_jobs}
-use Rattle.sal_sender.specs.Promises.{IsLegal}
+use Rattle.sal_sender.specs.Promises.{IsLegalSender}
 use Rattle.sal_sender.specs.JobWork.{JobWork}
 use Rattle.sal_sender.specs.Stands.{work_in, work_of, work_at, IsWorkOfItsJob}
 use Rattle.sal_sender.proofs.Sound.{chained_of_legal, sound_of_legal}
@@ -63,7 +63,7 @@ module _ {S : Type 0} (codec : Coding S) where
 
 module _ {S : Type 0} (codec : Coding S) (session : Session) where
   -- each job of the newest picture is known by its id
-  pub works_known : (past : Past) → IsLegal codec session past → Each (IsKnown codec past (pictures past) (choices past)) (jobs_after (started past))
+  pub works_known : (past : Past) → IsLegalSender codec session past → Each (IsKnown codec past (pictures past) (choices past)) (jobs_after (started past))
   works_known [] legal = tt
   works_known (NextPicture picture moment (Started n) ∷ past) legal = works_found codec past (pictures past ++ picture ∷ []) (choices past) (jobs past) (find_own _ (jobs past) (jobs_rising past))
   works_known (NextPicture picture moment (NotChosen n) ∷ past) legal = works_stay codec past (jobs_after (started past)) (works_known past legal.1)
@@ -89,7 +89,7 @@ module _ {S : Type 0} (codec : Coding S) (session : Session) where
   first_known past (y ∷ js) x h e = let own : y ≡ x = cc in subst (IsKnown codec past (pictures past) (choices past)) own e.0
 
   -- what waits first is known by its id
-  pub waiting_known : (past : Past) (w : JobWork S) → IsLegal codec session past → Some w ≡ option_map (work_of codec past) (first_in (waiting_jobs past)) → work_at codec past w.id ≡ Some w
+  pub waiting_known : (past : Past) (w : JobWork S) → IsLegalSender codec session past → Some w ≡ option_map (work_of codec past) (first_in (waiting_jobs past)) → work_at codec past w.id ≡ Some w
   waiting_known past w legal h = go (first_in (waiting_jobs past)) refl h
     where
       go : (o : Option Job) → first_in (waiting_jobs past) ≡ o → Some w ≡ option_map (work_of codec past) o → work_at codec past w.id ≡ Some w
@@ -100,7 +100,7 @@ module _ {S : Type 0} (codec : Coding S) (session : Session) where
           subst (λ (v : JobWork S). work_at codec past v.id ≡ Some v) (sym own) known
 
   -- the work that is known by a job's id is that of its job, where the picture is open
-  pub known_own : (past : Past) (w : JobWork S) → IsLegal codec session past → work_at codec past w.id ≡ Some w → IsWorkOfItsJob codec past w
+  pub known_own : (past : Past) (w : JobWork S) → IsLegalSender codec session past → work_at codec past w.id ≡ Some w → IsWorkOfItsJob codec past w
   known_own past w legal h = open_own (opened past) refl
     where
       own_each : (js : List Job) → Each (IsKnown codec past (pictures past) (choices past)) js → Each (λ job. job.id ≡ w.id → w ≡ work_of codec past job) js

@@ -21,8 +21,9 @@ use Rattle.sal_sender.specs.declared.answers.Ignore.{Ignore}
 use Rattle.sal_sender.specs.declared.answers.Ignore.TheVariants.{Wire, Kind, Session as OtherSession, Serial, Unsent, Name as OtherName, Old}
 use Rattle.sal_sender.specs.declared.answers.HeardAck.{HeardAck}
 use Rattle.sal_sender.specs.declared.answers.HeardAck.TheVariants.{Heard, Ignored}
-use Rattle.sal_sender.specs.Past.{Call, Past, TakeJob, Report, pictures, tip, floor, sent, opened, started}
-use Rattle.sal_sender.specs.Chain.{name_in, state_at}
+use Rattle.sal_sender.specs.Past.{SenderCall, Past, TakeJob, Report, pictures, tip, floor, sent, opened, started}
+use Rattle.sal_chain.specs.Held.{name_in}
+use Rattle.sal_sender.specs.Chain.{state_at}
 use Rattle.sal_sender.specs.OneThread.{Session}
 use Rattle.sal_sender.specs.Acks.{acknowledged, heard, named_from}
 use Rattle.sal_sender.specs.Jobs.{Job, jobs}
@@ -48,7 +49,7 @@ next_answer past =
     else Started (length (jobs past))
 
 -- whether this call handed out the job of this id
-abbrev pub hands_out : ℕ → Call → Bool
+abbrev pub hands_out : ℕ → SenderCall → Bool
 hands_out id (TakeJob (Some job)) = job == id
 hands_out id _ = false
 
@@ -74,7 +75,7 @@ abbrev pub is_outstanding : Past → ℕ → Bool
 is_outstanding [] id = false
 is_outstanding (call ∷ past) id = after call (is_outstanding past id)
   where
-    after : Call → Bool → Bool
+    after : SenderCall → Bool → Bool
     after (TakeJob (Some job)) outstanding = job == id || outstanding
     after (Report job gave Late) outstanding = not (job == id) && outstanding
     after (Report job gave Kept) outstanding = not (job == id) && outstanding

@@ -3,7 +3,8 @@ use Rattle.std.specs.Prelude.{◌≡◌, ℕ, ◌-◌, List, [], ◌∷◌, true
 use Rattle.sal_base.specs.declared.picture.Picture.{Picture}
 use Rattle.sal_base.specs.declared.coding.Kind.{Kind}
 use Rattle.sal_base.specs.Picture.{flat_picture}
-use Rattle.sal_codec.specs.Coding.{Coding, Made, made_of, name_of}
+use Rattle.sal_codec.specs.Coding.{Coding, Made, made_of}
+use Rattle.sal_chain.specs.Held.{name_in}
 use Rattle.sal_sender.specs.declared.choice.Choice.{Choice}
 use Rattle.sal_sender.specs.Past.{Past, choices, pictures, tip, floor}
 
@@ -16,10 +17,6 @@ picture_at shot n = or_none (slice_get shot (n - 1))
     or_none (Some p) = p
 
 module _ {S : Type 0} (codec : Coding S) where
-  -- the name of a state
-  abbrev pub name_in : S → List ℕ
-  name_in s = name_of (codec.digest s)
-
   -- what the codec makes of a picture from a state
   abbrev pub made_from : S → Picture → ℕ → Kind → Made S
   made_from s picture q kind = made_of s picture (codec.encode s picture q kind)
@@ -51,7 +48,7 @@ module _ {S : Type 0} (codec : Coding S) where
 
   -- the different states among the initial and the chosen ones have different names
   abbrev pub NamesDiffer : List Picture → List Choice → Type 0
-  NamesDiffer shot chosen = (m n : ℕ) → name_in (state shot chosen m) ≡ name_in (state shot chosen n) → state shot chosen m ≡ state shot chosen n
+  NamesDiffer shot chosen = (m n : ℕ) → name_in codec (state shot chosen m) ≡ name_in codec (state shot chosen n) → state shot chosen m ≡ state shot chosen n
 
 -- a frame number, its source, and so on
 unfoldable pub sources_from : List Choice → ℕ → List ℕ

@@ -18,7 +18,7 @@ use Rattle.sal_sender.specs.declared.choice.Size.TheVariants.{Oversize as TooLar
 use Rattle.sal_sender.specs.declared.answers.Reported.TheVariants.{Kept}
 use Rattle.sal_sender.specs.declared.answers.Chosen.{Chosen}
 use Rattle.sal_sender.specs.declared.answers.Chosen.TheVariants.{NoPicture, Waiting, Sent, Nothing}
-use Rattle.sal_sender.specs.Past.{Call, Past, Report, choices, pictures, tip, floor, sent, now, opened}
+use Rattle.sal_sender.specs.Past.{SenderCall, Past, Report, choices, pictures, tip, floor, sent, now, opened}
 use Rattle.sal_sender.specs.Chain.{picture_at, state_at}
 use Rattle.sal_sender.specs.OneThread.{Session, burst_after}
 use Rattle.sal_sender.specs.Acks.{safe, lost, average, flight}
@@ -49,7 +49,7 @@ needed true all = find is_spare all
 needed false all = find is_coarse all
 
 -- what a call says of this job's report, where it kept it
-abbrev pub report_in : ℕ → Call → Option Gave
+abbrev pub report_in : ℕ → SenderCall → Option Gave
 report_in id (Report job gave Kept) = if job == id then Some gave else None
 report_in id _ = None
 

@@ -13,7 +13,7 @@ use Rattle.sal_sender.specs.declared.outcome.Gave.TheVariants.{Frame as GaveFram
 use Rattle.sal_sender.specs.declared.choice.JobRole.{JobRole}
 use Rattle.sal_sender.specs.declared.outcome.Outcome.{Outcome}
 use Rattle.sal_sender.specs.declared.outcome.Outcome.TheVariants.{Frame, Oversize, NoMemory}
-use Rattle.sal_sender.specs.Chain.{name_in}
+use Rattle.sal_chain.specs.Held.{name_in}
 
 -- a job's work: a picture that is to be encoded from a state
 pub record JobWork (S : Type 0) : Type 0 where

@@ -14,7 +14,7 @@ use Rattle.sal_sender.specs.declared.ack_state.AckState.{AckState}
 use Rattle.sal_sender.specs.declared.open_picture.Candidate.{Candidate}
 use Rattle.sal_sender.specs.declared.open_picture.OpenPicture.{OpenPicture}
 use Rattle.sal_sender.specs.declared.open_picture.JobQueue.{JobQueue}
-use Rattle.sal_sender.specs.Chain.{name_in}
+use Rattle.sal_chain.specs.Held.{name_in}
 use Rattle.sal_sender.specs.OneThread.{Session}
 use Rattle.sal_sender.specs.Candidates.{queued}
 use Rattle.sal_sender.specs.JobWork.{JobWork, JobReport}

@@ -6,7 +6,8 @@ use Rattle.sal_codec.specs.Coding.{Coding, Made}
 use Rattle.sal_wire.specs.Fields.{FragmentFields}
 use Rattle.sal_wire.specs.Fragmentation.{below, fragment_count, fragment_data}
 use Rattle.sal_sender.specs.declared.choice.Choice.{Choice}
-use Rattle.sal_sender.specs.Chain.{name_in, state, made}
+use Rattle.sal_chain.specs.Held.{name_in}
+use Rattle.sal_sender.specs.Chain.{state, made}
 
 -- what doesn't change over a session: its number, and the pictures' size and rate
 pub record Session : Type 0 where

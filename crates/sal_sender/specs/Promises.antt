@@ -6,7 +6,7 @@ use Rattle.sal_wire.specs.Layout.{fragment_bytes}
 use Rattle.sal_sender.specs.declared.answers.Next.TheVariants.{Memory as NextMemory}
 use Rattle.sal_sender.specs.declared.answers.Chosen.{Chosen}
 use Rattle.sal_sender.specs.declared.answers.Chosen.TheVariants.{NoPicture, Waiting, Sent, Nothing, Memory as ChosenMemory}
-use Rattle.sal_sender.specs.Past.{Call, Past, NextPicture, TakeJob, Report, Choose, Hear, choices, pictures, datagrams, opened, now}
+use Rattle.sal_sender.specs.Past.{SenderCall, Past, NextPicture, TakeJob, Report, Choose, Hear, choices, pictures, datagrams, opened, now}
 use Rattle.sal_sender.specs.OneThread.{Session, one_thread}
 use Rattle.sal_sender.specs.Jobs.{Job, jobs}
 use Rattle.sal_sender.specs.Choosing.{candidate_fits, lost_since, needed, reported, candidates, may_send, chosen}
@@ -27,17 +27,17 @@ is_nothing ChosenMemory = true
 
 module _ {S : Type 0} (codec : Coding S) (session : Session) where
   -- a call may be answered so after a past
-  abbrev pub Answers : Call → Past → Type 0
-  Answers (NextPicture picture moment answer) past = (answer ≡ next_answer past) ⊎ (answer ≡ NextMemory)
-  Answers (TakeJob answer) past = answer ≡ take_answer past
-  Answers (Report job gave answer) past = answer ≡ report_answer past job
-  Answers (Choose moment answer) past = (answer ≡ chosen codec session past moment) ⊎ (answer ≡ ChosenMemory)
-  Answers (Hear came moment answer) past = answer ≡ heard_answer codec session past came
+  abbrev pub SenderAnswers : SenderCall → Past → Type 0
+  SenderAnswers (NextPicture picture moment answer) past = (answer ≡ next_answer past) ⊎ (answer ≡ NextMemory)
+  SenderAnswers (TakeJob answer) past = answer ≡ take_answer past
+  SenderAnswers (Report job gave answer) past = answer ≡ report_answer past job
+  SenderAnswers (Choose moment answer) past = (answer ≡ chosen codec session past moment) ⊎ (answer ≡ ChosenMemory)
+  SenderAnswers (Hear came moment answer) past = answer ≡ heard_answer codec session past came
 
   -- each call was answered so after the calls before it
-  abbrev pub IsLegal : Past → Type 0
-  IsLegal [] = Unit {0}
-  IsLegal (call ∷ past) = Answers call past × IsLegal past
+  abbrev pub IsLegalSender : Past → Type 0
+  IsLegalSender [] = Unit {0}
+  IsLegalSender (call ∷ past) = SenderAnswers call past × IsLegalSender past
 
   -- no eligible report fits, though the needed one is in
   pub record NothingFits (past : Past) (moment : ℕ) : Type 0 where
@@ -56,7 +56,7 @@ module _ {S : Type 0} (codec : Coding S) (session : Session) where
   IsWithin past moment _ = Unit {0}
 
   -- a choice fits, and nothing is chosen exactly where nothing fits, but for want of memory
-  abbrev pub ChoiceFits : Call → Past → Type 0
+  abbrev pub ChoiceFits : SenderCall → Past → Type 0
   ChoiceFits (Choose moment answer) past = IsWithin past moment answer × (NothingFits past (max (now past) moment) → is_nothing answer ≡ true)
   ChoiceFits _ past = Unit {0}
 
@@ -71,5 +71,5 @@ module _ {S : Type 0} (codec : Coding S) (session : Session) where
     pub sound : IsSound past
 
   -- a machine that stood for a past answered the call as it may after it, and stands for the past with the call
-  abbrev pub Answered : {M : Type 0} → (M → Past → Type 0) → M → M → Call → Type 0
-  Answered stands old new call = (past : Past) → stands old past → Answers call past × stands new (call ∷ past)
+  abbrev pub SenderAnswered : {M : Type 0} → (M → Past → Type 0) → M → M → SenderCall → Type 0
+  SenderAnswered stands old new call = (past : Past) → stands old past → SenderAnswers call past × stands new (call ∷ past)

@@ -12,12 +12,13 @@ use Rattle.sal_sender.specs.declared.open_picture.Candidate.{Candidate}
 use Rattle.sal_sender.specs.declared.open_picture.OpenPicture.{OpenPicture}
 use Rattle.sal_sender.specs.declared.answers.Next.TheVariants.{Started}
 use Rattle.sal_sender.specs.Past.{Past, NextPicture, choices, pictures, last_job, now, tip, tip_of, floor_of, sent, quantiser, opened}
-use Rattle.sal_sender.specs.Chain.{name_in, picture_at, state}
+use Rattle.sal_chain.specs.Held.{name_in}
+use Rattle.sal_sender.specs.Chain.{picture_at, state}
 use Rattle.sal_sender.specs.Acks.{acknowledged, heard, average, heard_at, safe}
 use Rattle.sal_sender.specs.Jobs.{Job, jobs, kind_of, base, needs_spare, coarse_job, spare_job, fine_job}
 use Rattle.sal_sender.specs.Choosing.{reported, first_some}
 use Rattle.sal_sender.specs.Answers.{jobs_after, waiting_jobs, is_outstanding}
-use Rattle.sal_sender.specs.Promises.{IsLegal}
+use Rattle.sal_sender.specs.Promises.{IsLegalSender}
 use Rattle.sal_sender.specs.SentFrames.{sent_frames_of}
 use Rattle.sal_sender.specs.Candidates.{queued}
 use Rattle.sal_sender.specs.JobWork.{JobWork, JobReport}
@@ -130,8 +131,8 @@ module _ {S : Type 0} (codec : Coding S) where
     pub outstanding_are : (id : ℕ) → flag m.outstanding id ≡ s.is_outstanding id
 
   -- the calls that a sender was given, with their answers
-  pub record Stands (m : Machine S) (past : Past) : Type 0 where
-    pub legal : IsLegal codec m.session past
+  pub record SenderStands (m : Machine S) (past : Past) : Type 0 where
+    pub legal : IsLegalSender codec m.session past
     pub keeps : Keeps m (summary past)
 
   -- a report is of the work that its job is, where that is one of the open picture

@@ -3,7 +3,7 @@
 ghost use Rattle.std.specs.Prelude.{◌≡◌, false};
 ghost use Rattle.std.specs.Arc.{arc_value};
 ghost use Rattle.sal_codec.specs.Coding.{MayEncode};
-ghost use Rattle.sal_sender.specs.Chain.{name_in};
+ghost use Rattle.sal_chain.specs.Held.{name_in};
 ghost use Rattle.sal_sender.specs.JobWork.{JobWork, IsOutcome};
 
 use crate::choice::JobRole;
@@ -35,7 +35,7 @@ impl<C: Codec> Model for Job<C> {
     ghost use Rattle.std.specs.Prelude.{◌≡◌};
     ghost use Rattle.std.specs.Arc.{arc_value};
     ghost use Rattle.sal_codec.specs.Coding.{MayEncode};
-    ghost use Rattle.sal_sender.specs.Chain.{name_in};
+    ghost use Rattle.sal_chain.specs.Held.{name_in};
     ghost use Rattle.sal_sender.specs.JobWork.{JobWork};
 
     ghost Value = { JobWork C.State };

@@ -3,7 +3,7 @@
 ghost use Rattle.std.specs.Prelude.{◌≡◌, ◌⊎◌, ◌≤◌, length};
 ghost use Rattle.sal_codec.specs.Coding.{MayEncode};
 ghost use Rattle.sal_wire.specs.Fragmentation.{fragment_count};
-ghost use Rattle.sal_sender.specs.Chain.{name_in};
+ghost use Rattle.sal_chain.specs.Held.{name_in};
 ghost use Rattle.sal_sender.specs.Choosing.{datagram_count};
 ghost use Rattle.sal_sender.specs.Selecting.{size_of_report};
 ghost use Rattle.sal_sender.specs.JobWork.{JobWork, IsOutcome, IsTargetName, IsTargetDigest, gave_of, given, encoded};

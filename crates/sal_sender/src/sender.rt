@@ -7,7 +7,7 @@ ghost use Rattle.sal_codec.specs.Coding.{HasSides};
 ghost use Rattle.sal_wire.specs.declared.layout.TheConstants.{MAX_FRAGMENTS};
 ghost use Rattle.sal_sender.specs.Past.{Past, NextPicture, TakeJob, Report as ReportCall, Choose, Hear};
 ghost use Rattle.sal_sender.specs.OneThread.{Session};
-ghost use Rattle.sal_sender.specs.Promises.{Answers, Answered, SenderPromises};
+ghost use Rattle.sal_sender.specs.Promises.{SenderAnswers, SenderAnswered, SenderPromises};
 ghost use Rattle.sal_sender.specs.Answers.{report_answer};
 ghost use Rattle.sal_sender.specs.declared.choice.JobRole.TheVariants.{Spare};
 ghost use Rattle.sal_sender.specs.declared.answers.Reported.TheVariants.{Stranger, Late};
@@ -22,7 +22,7 @@ ghost use Rattle.std.specs.Arc.{arc_value};
 ghost use Rattle.sal_sender.specs.Planned.{plan_of, job_count, coarse_q, work_from, queue_of, after_start};
 ghost use Rattle.sal_sender.specs.Machine.{Machine, KeepsAllButOutstanding, IsOwnState, IsCandidate, IsSized};
 ghost use Rattle.sal_y4m.specs.Head.{IsHead};
-ghost use Rattle.sal_sender.specs.Stands.{Stands, work_of, work_at, IsWorkOfItsJob};
+ghost use Rattle.sal_sender.specs.Stands.{SenderStands, work_of, work_at, IsWorkOfItsJob};
 ghost use Rattle.sal_sender.specs.Sending.{lost_of, budget_in, floor_in, choice_from, with_choice, IsNext, IsPrepared, after_report, after_choice, after_nothing};
 ghost use Rattle.sal_sender.specs.Selecting.{has_fit, size_in};
 ghost use Rattle.sal_sender.specs.Answers.{closes};
@@ -91,7 +91,7 @@ impl<C: Codec> Sender<C> {
     pub fn new(alloc: Global, codec: C, session: u32, head: Head) -> Result<Sender<C>, Memory>
         requires { IsHead head }
         ensures session { IfOk result (λ s. s.session ≡ record { number = session; head = head }) }
-        ensures stands { IfOk result (λ s. Stands C.coding s []) }
+        ensures stands { IfOk result (λ s. SenderStands C.coding s []) }
     {
         let initial = Arc::new(alloc, codec.initial(alloc)?)?;
         let store = Store::new(alloc)?;
@@ -135,11 +135,11 @@ impl<C: Codec> Sender<C> {
     #[tactic(auto, using(crate::proofs::Sized::rest_sized, crate::proofs::Sized::first_sized))]
     pub fn take_job(&mut self) -> Option<Job<C>>
         ensures first { result ≡ first_in (queued self.old.waiting) }
-        ensures answered { Answered C.coding self.old.session (Stands C.coding) self.old self.new (TakeJob (option_map (λ w. w.id) result)) }
-        ensures waiting { (past : Past) → Stands C.coding self.old past → result ≡ option_map (work_of C.coding past) (first_in (waiting_jobs past)) }
-        ensures known { (past : Past) → Stands C.coding self.old past → IfSome result (λ w. work_at C.coding past w.id ≡ Some w) }
-        ensures least { (past : Past) → Stands C.coding self.old past → IfSome result (λ w. IsLeastWaiting past w.id) }
-        ensures promises { (past : Past) → Stands C.coding self.old past → SenderPromises C.coding self.old.session (TakeJob (option_map (λ w. w.id) result) ∷ past) }
+        ensures answered { SenderAnswered C.coding self.old.session (SenderStands C.coding) self.old self.new (TakeJob (option_map (λ w. w.id) result)) }
+        ensures waiting { (past : Past) → SenderStands C.coding self.old past → result ≡ option_map (work_of C.coding past) (first_in (waiting_jobs past)) }
+        ensures known { (past : Past) → SenderStands C.coding self.old past → IfSome result (λ w. work_at C.coding past w.id ≡ Some w) }
+        ensures least { (past : Past) → SenderStands C.coding self.old past → IfSome result (λ w. IsLeastWaiting past w.id) }
+        ensures promises { (past : Past) → SenderStands C.coding self.old past → SenderPromises C.coding self.old.session (TakeJob (option_map (λ w. w.id) result) ∷ past) }
         ensures sized { IfSome result (IsSized self.old.session.head) }
         ensures refused { result ≡ None → self.new ≡ self.old }
         ensures session { self.new.session ≡ self.old.session }
@@ -154,10 +154,10 @@ impl<C: Codec> Sender<C> {
     #[tactic(auto, using(crate::proofs::Near::seats_reported))]
     pub fn report(&mut self, report: Report<C>) -> Reported
         requires size { HasSides self.old.session.head.width self.old.session.head.height report.work.samples }
-        ensures answer { (past : Past) → Stands C.coding self.old past → result ≡ report_answer past report.work.id }
-        ensures answered { (past : Past) → Stands C.coding self.old past → IsWorkOfItsJob C.coding past report.work → Answers C.coding self.old.session (ReportCall report.work.id report.gave result) past × Stands C.coding self.new (ReportCall report.work.id report.gave result ∷ past) }
+        ensures answer { (past : Past) → SenderStands C.coding self.old past → result ≡ report_answer past report.work.id }
+        ensures answered { (past : Past) → SenderStands C.coding self.old past → IsWorkOfItsJob C.coding past report.work → SenderAnswers C.coding self.old.session (ReportCall report.work.id report.gave result) past × SenderStands C.coding self.new (ReportCall report.work.id report.gave result ∷ past) }
         ensures late { result ≡ Late → KeepsAllButOutstanding self.old self.new }
-        ensures promises { (past : Past) → Stands C.coding self.old past → SenderPromises C.coding self.old.session (ReportCall report.work.id report.gave result ∷ past) }
+        ensures promises { (past : Past) → SenderStands C.coding self.old past → SenderPromises C.coding self.old.session (ReportCall report.work.id report.gave result ∷ past) }
         ensures refused { result ≡ Stranger → self.new ≡ self.old }
         ensures after { self.new ≡ after_report self.old report result }
         ensures session { self.new.session ≡ self.old.session }
@@ -210,8 +210,8 @@ impl<C: Codec> Sender<C> {
 
     /// Takes bytes that came, which may be an acknowledgement of this session.
     pub fn heard(&mut self, bytes: &[u8], moment: u64) -> HeardAck
-        ensures answered { Answered C.coding self.old.session (Stands C.coding) self.old self.new (Hear (parsed bytes.now) moment result) }
-        ensures promises { (past : Past) → Stands C.coding self.old past → SenderPromises C.coding self.old.session (Hear (parsed bytes.now) moment result ∷ past) }
+        ensures answered { SenderAnswered C.coding self.old.session (SenderStands C.coding) self.old self.new (Hear (parsed bytes.now) moment result) }
+        ensures promises { (past : Past) → SenderStands C.coding self.old past → SenderPromises C.coding self.old.session (Hear (parsed bytes.now) moment result ∷ past) }
         ensures refused { (why : IgnoreData) → result ≡ Ignored why → self.new ≡ self.old }
         ensures session { self.new.session ≡ self.old.session }
     {
@@ -360,10 +360,10 @@ impl<C: Codec> Sender<C> {
     /// Starts a picture of the session's size, whose jobs then wait to be handed out; all memory is taken here, after all tests.
     pub fn next_picture(&mut self, picture: Arc<Picture>, moment: u64) -> Next
         requires size { HasSides self.old.session.head.width self.old.session.head.height (arc_value picture) }
-        ensures answered { Answered C.coding self.old.session (Stands C.coding) self.old self.new (NextPicture (arc_value picture) moment result) }
-        ensures promises { (past : Past) → Stands C.coding self.old past → SenderPromises C.coding self.old.session (NextPicture (arc_value picture) moment result ∷ past) }
+        ensures answered { SenderAnswered C.coding self.old.session (SenderStands C.coding) self.old self.new (NextPicture (arc_value picture) moment result) }
+        ensures promises { (past : Past) → SenderStands C.coding self.old past → SenderPromises C.coding self.old.session (NextPicture (arc_value picture) moment result ∷ past) }
         ensures refused { starts result ≡ false → self.new ≡ self.old }
-        ensures memory { (past : Past) → Stands C.coding self.old past → result ≡ Next.Memory → starts (next_answer past) ≡ true }
+        ensures memory { (past : Past) → SenderStands C.coding self.old past → result ≡ Next.Memory → starts (next_answer past) ≡ true }
         ensures session { self.new.session ≡ self.old.session }
     {
         if self.open.is_some() {
@@ -508,10 +508,10 @@ impl<C: Codec> Sender<C> {
     /// be sent now, or closes the picture where none fits. It waits for the report that is needed. Memory is taken only for a frame
     /// that is sent, and want of it changes nothing.
     pub fn choose(&mut self, moment: u64) -> Chosen
-        ensures answered { Answered C.coding self.old.session (Stands C.coding) self.old self.new (Choose moment result) }
-        ensures promises { (past : Past) → Stands C.coding self.old past → SenderPromises C.coding self.old.session (Choose moment result ∷ past) }
+        ensures answered { SenderAnswered C.coding self.old.session (SenderStands C.coding) self.old self.new (Choose moment result) }
+        ensures promises { (past : Past) → SenderStands C.coding self.old past → SenderPromises C.coding self.old.session (Choose moment result ∷ past) }
         ensures refused { closes result ≡ false → self.new ≡ self.old }
-        ensures memory { (past : Past) → Stands C.coding self.old past → result ≡ Chosen.Memory → sends (chosen C.coding self.old.session past moment) ≡ true }
+        ensures memory { (past : Past) → SenderStands C.coding self.old past → result ≡ Chosen.Memory → sends (chosen C.coding self.old.session past moment) ≡ true }
         ensures session { self.new.session ≡ self.old.session }
     {
         let Some(picture) = &self.open else {

@@ -16,8 +16,8 @@ use Rattle.sal_sender.specs.Chain.{state, made, picture_at}
 use Rattle.sal_sender.specs.OneThread.{Session, burst_after}
 use Rattle.sal_sender.specs.Choosing.{chosen}
 use Rattle.sal_sender.specs.Answers.{closes}
-use Rattle.sal_sender.specs.Promises.{Answers, Answered, IsLegal}
-use Rattle.sal_sender.specs.Stands.{Stands as SenderStands}
+use Rattle.sal_sender.specs.Promises.{SenderAnswers, SenderAnswered, IsLegalSender}
+use Rattle.sal_sender.specs.Stands.{SenderStands}
 use Rattle.sal_sender.proofs.Thread.{chosen_is}
 use Rattle.sal_world.specs.declared.event.ChooseAnswer.{ChooseAnswer}
 use Rattle.sal_world.specs.declared.event.ChooseAnswer.TheVariants.{Memory as ChooseMemory}
@@ -56,13 +56,13 @@ module _ {S : Type 0} (codec : Coding S) where
       let few : fragment_count all.0.encoded.bytes ≤ 4096 = all.0.encoded.few in
       (all.0.encoded.count_is ∙ sym (long ∙ count), omega arith)
 
-  burst_long : (session : Session) (past : Past) (moment : ℕ) (choice : Choice) (burst : List (List ℕ)) → IsLegal codec session (Choose moment (Sent choice burst) ∷ past) → (choice.count ≡ length burst) × (length burst ≤ 4096)
+  burst_long : (session : Session) (past : Past) (moment : ℕ) (choice : Choice) (burst : List (List ℕ)) → IsLegalSender codec session (Choose moment (Sent choice burst) ∷ past) → (choice.count ≡ length burst) × (length burst ≤ 4096)
   burst_long session past moment choice burst legal =
       long_step session past choice burst (chosen_is codec session past moment choice burst legal.0).datagrams
       (subst (λ shot. AreMade codec shot (choice ∷ choices past)) (append-nil (pictures past)) (made_of_legal codec session (Choose moment (Sent choice burst) ∷ past) legal))
 
   -- each choice of a legal past counts its datagrams
-  pub all_counted : (session : Session) (past : Past) → IsLegal codec session past → Each IsCounted past
+  pub all_counted : (session : Session) (past : Past) → IsLegalSender codec session past → Each IsCounted past
   all_counted session [] legal = tt
   all_counted session (NextPicture picture moment answer ∷ past) legal = (tt, all_counted session past legal.1)
   all_counted session (TakeJob answer ∷ past) legal = (tt, all_counted session past legal.1)
@@ -75,18 +75,18 @@ module _ {S : Type 0} (codec : Coding S) where
   all_counted session (Choose moment (Sent choice burst) ∷ past) legal = ((burst_long session past moment choice burst legal).0, all_counted session past legal.1)
 
   -- what a sender that stands for a past sends is that short
-  pub sent_short : (session : Session) (x b : WorldParts S) (m : Machine S) (w : WorldPast S) (choice : Choice) (burst : List (List ℕ)) (answer : Chosen) → x ≡ b → IsWorld codec session b w → Answered codec x.sender.session (SenderStands codec) x.sender m (Choose x.moment answer) → answer ≡ Sent choice burst → length burst ≤ 4096
+  pub sent_short : (session : Session) (x b : WorldParts S) (m : Machine S) (w : WorldPast S) (choice : Choice) (burst : List (List ℕ)) (answer : Chosen) → x ≡ b → IsWorld codec session b w → SenderAnswered codec x.sender.session (SenderStands codec) x.sender m (Choose x.moment answer) → answer ≡ Sent choice burst → length burst ≤ 4096
   sent_short session x b m w choice burst answer view seen answered e =
       let is : IsWorld codec session x w = opened codec session x b w view seen in
-      let both : Answers codec x.sender.session (Choose x.moment answer) w.sender × SenderStands codec m (Choose x.moment answer ∷ w.sender) = answered w.sender is.sender in
-      (burst_long m.session w.sender x.moment choice burst (subst (λ a. IsLegal codec m.session (Choose x.moment a ∷ w.sender)) e both.1.legal)).1
+      let both : SenderAnswers codec x.sender.session (Choose x.moment answer) w.sender × SenderStands codec m (Choose x.moment answer ∷ w.sender) = answered w.sender is.sender in
+      (burst_long m.session w.sender x.moment choice burst (subst (λ a. IsLegalSender codec m.session (Choose x.moment a ∷ w.sender)) e both.1.legal)).1
 
 module _ {S : Type 0} (codec : Coding S) (session : Session) where
   abbrev Did : WorldParts S → WorldPast S → ChooseAnswer → Type 0
   Did new w answer = HappenedInUnless codec session ChooseMemory new w Chooses answer (choose_answer codec session w)
 
   -- a choice, or none
-  pub chosen_happens : (x b : WorldParts S) (m : Machine S) (all : List (List ℕ)) (w : WorldPast S) (answer chose : Chosen) (out : ChooseAnswer) → x ≡ b → IsWorld codec session b w → Answered codec x.sender.session (SenderStands codec) x.sender m (Choose x.moment answer) → m.session ≡ x.sender.session → answer ≡ chose → (chose ≡ ChosenMemory → ⊥) → out ≡ without_datagrams chose → all ≡ x.sent ++ burst_in (Choose x.moment chose) → Did (record x { sender = m; sent = all }) w out
+  pub chosen_happens : (x b : WorldParts S) (m : Machine S) (all : List (List ℕ)) (w : WorldPast S) (answer chose : Chosen) (out : ChooseAnswer) → x ≡ b → IsWorld codec session b w → SenderAnswered codec x.sender.session (SenderStands codec) x.sender m (Choose x.moment answer) → m.session ≡ x.sender.session → answer ≡ chose → (chose ≡ ChosenMemory → ⊥) → out ≡ without_datagrams chose → all ≡ x.sent ++ burst_in (Choose x.moment chose) → Did (record x { sender = m; sent = all }) w out
   chosen_happens x b m all w answer chose out view seen answered same e never told more = go (opened codec session x b w view seen)
     where
       step : IsWorld codec session x w → chose ≡ chosen codec x.sender.session w.sender x.moment → IsWorld codec session (record x { sender = m; sent = all }) (record w { sender = Choose x.moment chose ∷ w.sender }) → Did (record x { sender = m; sent = all }) w out
@@ -100,8 +100,8 @@ module _ {S : Type 0} (codec : Coding S) (session : Session) where
 
       go : IsWorld codec session x w → Did (record x { sender = m; sent = all }) w out
       go is =
-          let both : Answers codec x.sender.session (Choose x.moment chose) w.sender × SenderStands codec m (Choose x.moment chose ∷ w.sender) =
-          subst (λ a. Answers codec x.sender.session (Choose x.moment a) w.sender × SenderStands codec m (Choose x.moment a ∷ w.sender)) e (answered w.sender is.sender) in
+          let both : SenderAnswers codec x.sender.session (Choose x.moment chose) w.sender × SenderStands codec m (Choose x.moment chose ∷ w.sender) =
+          subst (λ a. SenderAnswers codec x.sender.session (Choose x.moment a) w.sender × SenderStands codec m (Choose x.moment a ∷ w.sender)) e (answered w.sender is.sender) in
           let after : IsWorld codec session (record x { sender = m; sent = all }) (record w { sender = Choose x.moment chose ∷ w.sender }) = record {
             session_is = same ∙ is.session_is;
             sender = both.1;

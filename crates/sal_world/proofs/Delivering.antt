@@ -17,13 +17,14 @@ use Rattle.sal_budget.specs.Gap.{Arrival, gap_after}
 use Rattle.sal_chain.specs.declared.stored_state.StoredState.{StoredState}
 use Rattle.sal_chain.specs.Held.{in_order, not_below, number_and_name}
 use Rattle.sal_sender.specs.Past.{choices, pictures, datagrams, tip}
-use Rattle.sal_sender.specs.Chain.{name_in, state_at}
+use Rattle.sal_chain.specs.Held.{name_in}
+use Rattle.sal_sender.specs.Chain.{state_at}
 use Rattle.sal_sender.specs.OneThread.{Session}
 use Rattle.sal_sender.proofs.Thread.{thread_of_legal}
 use Rattle.sal_sender.proofs.Sound.{tip_is}
 use Rattle.sal_receiver.specs.declared.answers.Delivered.TheVariants.{Taken}
 use Rattle.sal_receiver.specs.declared.answers.Refuse.{Refuse}
-use Rattle.sal_receiver.specs.Past.{Call, Deliver, TakeReady, Decoding, taken, shown, head, head_of, arrival_of, arrivals, now, floor}
+use Rattle.sal_receiver.specs.Past.{ReceiverCall, Deliver, TakeReady, Decoding, taken, shown, head, head_of, arrival_of, arrivals, now, floor}
 use Rattle.sal_receiver.specs.Past.{session as session_of}
 use Rattle.sal_receiver.specs.Held.{decoded}
 use Rattle.sal_receiver.specs.Answers.{same_head, session_cause, size_cause, clash_cause, first_of, unless_refused, held_at_fragment, ack_after, deliver_answer}
@@ -111,10 +112,10 @@ module _ {S : Type 0} (codec : Coding S) (session : Session) where
   -- ---- the acknowledgement
 
   -- the serials of what arrived are those of fragments that were sent
-  abbrev AreSerials : WorldPast S → List (Call S) → Type 0
+  abbrev AreSerials : WorldPast S → List (ReceiverCall S) → Type 0
   AreSerials w past = Each (λ (a : Arrival). a.serial ≤ length (fragments codec session w.sender)) (arrivals past)
 
-  serials : (w : WorldPast S) (past : List (Call S)) → Given codec session w → Each (IsOfSentFragment codec session w.sender) past → AreSerials w past
+  serials : (w : WorldPast S) (past : List (ReceiverCall S)) → Given codec session w → Each (IsOfSentFragment codec session w.sender) past → AreSerials w past
   serials w [] g each = tt
   serials w (TakeReady answer ∷ past) g each = serials w past g each.1
   serials w (Decoding n outcome answer ∷ past) g each = serials w past g each.1
@@ -181,7 +182,7 @@ module _ {S : Type 0} (codec : Coding S) (session : Session) where
 
   -- ---- a fragment that was sent comes
 
-  abbrev pub came_call : WorldPast S → FragmentFields → Call S
+  abbrev pub came_call : WorldPast S → FragmentFields → ReceiverCall S
   came_call w e = Deliver (Ok (FragmentMessage e)) w.moment (Taken (ack_after codec w.receiver e w.moment))
 
   passed_later : (w : WorldPast S) (e : FragmentFields) (n : ℕ) → IsHeldOrPassed codec session w.receiver n → IsHeldOrPassed codec session (receives codec session w (came_call w e)).receiver n

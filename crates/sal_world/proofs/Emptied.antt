@@ -19,10 +19,10 @@ use Rattle.sal_sender.specs.Answers.{waiting_jobs}
 use Rattle.sal_receiver.specs.declared.answers.Delivered.TheVariants.{Taken, Ended, Refused, Memory}
 use Rattle.sal_receiver.specs.declared.answers.Done.{Done}
 use Rattle.sal_receiver.specs.declared.answers.Done.TheVariants.{Stranger, Returned, Unfit, Misnamed, Older, Show}
-use Rattle.sal_receiver.specs.Past.{Call, Deliver, TakeReady, Decoding, DecodeResult, taken, shown, head}
-use Rattle.sal_receiver.specs.Held.{name_in}
+use Rattle.sal_receiver.specs.Past.{ReceiverCall, Deliver, TakeReady, Decoding, DecodeResult, taken, shown, head}
+use Rattle.sal_chain.specs.Held.{name_in}
 use Rattle.sal_receiver.specs.Ready.{ready_source, frame, is_ready, is_out, is_decided, outcome_of, decoding_of, target_name}
-use Rattle.sal_receiver.specs.Ready.{take_answer as ready_answer}
+use Rattle.sal_receiver.specs.Ready.{ready_answer}
 use Rattle.sal_receiver.specs.Answers.{has_size, last_shown, outcome_answer, decoded_answer}
 use Rattle.sal_receiver.proofs.LeastLemmas.{least_none, has_filter}
 use Rattle.sal_receiver.proofs.Lasting.{ready_same}
@@ -94,17 +94,17 @@ filter_short f (e ∷ es) = step (f e) (filter_short f es)
     step false l = let a : length (filter f es) ≤ suc (length es) = omega (arith, l) in a
 
 module _ {S : Type 0} where
-  more_acks : (call : Call S) (past : List (Call S)) → length (acks_of past) ≤ length (acks_of past ++ ack_in call)
+  more_acks : (call : ReceiverCall S) (past : List (ReceiverCall S)) → length (acks_of past) ≤ length (acks_of past ++ ack_in call)
   more_acks call past = omega (arith, length-append (acks_of past) (ack_in call))
 
-  grows : (call : Call S) (past : List (Call S)) → length (taken past) ≤ length (acks_of past) → length (taken past) ≤ length (acks_of past ++ ack_in call)
+  grows : (call : ReceiverCall S) (past : List (ReceiverCall S)) → length (taken past) ≤ length (acks_of past) → length (taken past) ≤ length (acks_of past ++ ack_in call)
   grows call past l = omega (arith, l, more_acks call past)
 
-  with_short : (b : Bool) (e : FragmentFields) (es : List FragmentFields) (ack : Ack) (past : List (Call S)) → length es ≤ length (acks_of past) → length (cond b es (e ∷ es)) ≤ length (acks_of past ++ ack ∷ [])
+  with_short : (b : Bool) (e : FragmentFields) (es : List FragmentFields) (ack : Ack) (past : List (ReceiverCall S)) → length es ≤ length (acks_of past) → length (cond b es (e ∷ es)) ≤ length (acks_of past ++ ack ∷ [])
   with_short true e es ack past l = let a : length es ≤ length (acks_of past ++ ack ∷ []) = omega (arith, l, length-append (acks_of past) (ack ∷ [])) in a
   with_short false e es ack past l = let a : suc (length es) ≤ length (acks_of past ++ ack ∷ []) = omega (arith, l, length-append (acks_of past) (ack ∷ [])) in a
 
-  taken_short : (past : List (Call S)) → length (taken past) ≤ length (acks_of past)
+  taken_short : (past : List (ReceiverCall S)) → length (taken past) ≤ length (acks_of past)
   taken_short [] = let a : 0 ≤ 0 = omega arith in a
   taken_short (Deliver (Err fault) moment answer ∷ past) = grows (Deliver (Err fault) moment answer) past (taken_short past)
   taken_short (Deliver (Ok (AckMessage ack)) moment answer ∷ past) = grows (Deliver (Ok (AckMessage ack)) moment answer) past (taken_short past)
@@ -117,10 +117,10 @@ module _ {S : Type 0} where
   taken_short (Decoding n outcome answer ∷ past) = grows (Decoding n outcome answer) past (taken_short past)
 
   -- the fragments of numbers that aren't decided
-  abbrev left_of : List (Call S) → ℕ
+  abbrev left_of : List (ReceiverCall S) → ℕ
   left_of past = length (filter (λ (e : FragmentFields). not (is_decided past e.number)) (taken past))
 
-  few : (past : List (Call S)) → left_of past ≤ length (acks_of past)
+  few : (past : List (ReceiverCall S)) → left_of past ≤ length (acks_of past)
   few past = omega (arith, filter_short (λ (e : FragmentFields). not (is_decided past e.number)) (taken past), taken_short past)
 
 -- an answer that decides its number
@@ -139,7 +139,7 @@ decides_if false false true x y z u p q r s = r
 decides_if false false false x y z u p q r s = s
 
 module _ {S : Type 0} where
-  out_after : (past : List (Call S)) (m k : ℕ) (outcome : DecodeResult S) (answer : Done) → Decides answer → is_out (Decoding m outcome answer ∷ past) k ≡ (not (eqb m k) && is_out past k)
+  out_after : (past : List (ReceiverCall S)) (m k : ℕ) (outcome : DecodeResult S) (answer : Done) → Decides answer → is_out (Decoding m outcome answer ∷ past) k ≡ (not (eqb m k) && is_out past k)
   out_after past m k outcome Stranger d = absurd d
   out_after past m k outcome (Returned n) d = absurd d
   out_after past m k outcome (Unfit n why) d = refl
@@ -147,7 +147,7 @@ module _ {S : Type 0} where
   out_after past m k outcome (Older n greater) d = refl
   out_after past m k outcome (Show n picture) d = refl
 
-  decided_after : (past : List (Call S)) (m k : ℕ) (outcome : DecodeResult S) (answer : Done) → Decides answer → is_decided (Decoding m outcome answer ∷ past) k ≡ (eqb m k || is_decided past k)
+  decided_after : (past : List (ReceiverCall S)) (m k : ℕ) (outcome : DecodeResult S) (answer : Done) → Decides answer → is_decided (Decoding m outcome answer ∷ past) k ≡ (eqb m k || is_decided past k)
   decided_after past m k outcome Stranger d = absurd d
   decided_after past m k outcome (Returned n) d = absurd d
   decided_after past m k outcome (Unfit n why) d = refl
@@ -156,32 +156,32 @@ module _ {S : Type 0} where
   decided_after past m k outcome (Show n picture) d = refl
 
 module _ {S : Type 0} (codec : Coding S) where
-  outcome_decides : (past : List (Call S)) (m : ℕ) (said : Result (Decoded S) Fault) → Decides (outcome_answer codec past m (outcome_of codec said))
+  outcome_decides : (past : List (ReceiverCall S)) (m : ℕ) (said : Result (Decoded S) Fault) → Decides (outcome_answer codec past m (outcome_of codec said))
   outcome_decides past m (Ok d) = decides_if (not (has_size (head past) d.picture)) (not (same (name_in codec d.state) (target_name past m))) (leb m (last_shown (shown past))) _ _ _ _ tt tt tt tt
   outcome_decides past m (Err fault) = tt
 
-  answer_decides : (past : List (Call S)) (m : ℕ) (o : Option S) (bytes : List ℕ) → is_some o ≡ true → is_out past m ≡ true → Decides (decoded_answer codec past m (decoding_of codec o bytes true))
+  answer_decides : (past : List (ReceiverCall S)) (m : ℕ) (o : Option S) (bytes : List ℕ) → is_some o ≡ true → is_out past m ≡ true → Decides (decoded_answer codec past m (decoding_of codec o bytes true))
   answer_decides past m None bytes h out = absurd (cc)
   answer_decides past m (Some source) bytes h out =
       subst (λ b. Decides (cond (not b) Stranger (outcome_answer codec past m (outcome_of codec (codec.decode source bytes))))) (sym out) (outcome_decides past m (codec.decode source bytes))
 
   -- a frame is handed out and decoded
-  abbrev came_of : List (Call S) → Option ℕ → ℕ → DecodeResult S
+  abbrev came_of : List (ReceiverCall S) → Option ℕ → ℕ → DecodeResult S
   came_of past a m = decoding_of codec (ready_source codec (TakeReady a ∷ past) m) (frame (TakeReady a ∷ past) m) true
 
-  abbrev turned : List (Call S) → Option ℕ → ℕ → List (Call S)
+  abbrev turned : List (ReceiverCall S) → Option ℕ → ℕ → List (ReceiverCall S)
   turned past a m = Decoding m (came_of past a m) (decoded_answer codec (TakeReady a ∷ past) m (came_of past a m)) ∷ TakeReady a ∷ past
 
-  turn_decides : (past : List (Call S)) (m : ℕ) → is_ready codec past m ≡ true → Decides (decoded_answer codec (TakeReady (Some m) ∷ past) m (came_of past (Some m) m))
+  turn_decides : (past : List (ReceiverCall S)) (m : ℕ) → is_ready codec past m ≡ true → Decides (decoded_answer codec (TakeReady (Some m) ∷ past) m (came_of past (Some m) m))
   turn_decides past m w =
       answer_decides (TakeReady (Some m) ∷ past) m (ready_source codec (TakeReady (Some m) ∷ past) m) (frame (TakeReady (Some m) ∷ past) m)
       (ap is_some (ready_same codec (TakeReady (Some m)) past m refl refl) ∙ (waits_parts codec (is_some (ready_source codec past m)) (is_out past m) (is_decided past m) w).0)
       (ap (λ b. b || is_out past m) (eq-eqb m m refl))
 
-  turn_out : (past : List (Call S)) (m : ℕ) → is_ready codec past m ≡ true → ((k : ℕ) → is_out past k ≡ false) → (k : ℕ) → is_out (turned past (Some m) m) k ≡ false
+  turn_out : (past : List (ReceiverCall S)) (m : ℕ) → is_ready codec past m ≡ true → ((k : ℕ) → is_out past k ≡ false) → (k : ℕ) → is_out (turned past (Some m) m) k ≡ false
   turn_out past m w out k = out_after (TakeReady (Some m) ∷ past) m k (came_of past (Some m) m) _ (turn_decides past m w) ∙ off (eqb m k) (is_out past k) (out k)
 
-  turn_left : (past : List (Call S)) (m : ℕ) → is_ready codec past m ≡ true → suc (left_of (turned past (Some m) m)) ≤ left_of past
+  turn_left : (past : List (ReceiverCall S)) (m : ℕ) → is_ready codec past m ≡ true → suc (left_of (turned past (Some m) m)) ≤ left_of past
   turn_left past m w =
       let parts = waits_parts codec (is_some (ready_source codec past m)) (is_out past m) (is_decided past m) w in
       fewer (λ k. not (is_decided past k)) (λ k. not (is_decided (turned past (Some m) m) k)) m
@@ -189,22 +189,22 @@ module _ {S : Type 0} (codec : Coding S) where
       (taken past) (ap not parts.1) (ready_taken codec past m parts.0)
 
   -- where no frame is handed out none waits
-  none_waits : (past : List (Call S)) (n : ℕ) → ready_answer codec past ≡ None → is_ready codec past n ≡ false
+  none_waits : (past : List (ReceiverCall S)) (n : ℕ) → ready_answer codec past ≡ None → is_ready codec past n ≡ false
   none_waits past n h = no_wait (is_some (ready_source codec past n)) (is_out past n) (is_decided past n) (λ w.
       least_none (filter (is_ready codec past) (map (λ (e : FragmentFields). e.number) (taken past))) n h
       (has_filter (is_ready codec past) (map (λ (e : FragmentFields). e.number) (taken past)) n w (ready_taken codec past n (waits_parts codec (is_some (ready_source codec past n)) (is_out past n) (is_decided past n) w).0)))
 
-  end_step : (past : List (Call S)) (a : Option ℕ) → a ≡ None → ((n : ℕ) → is_ready codec past n ≡ false) → ((n : ℕ) → is_out past n ≡ false) → NothingIsLeft codec (TakeReady a ∷ past)
+  end_step : (past : List (ReceiverCall S)) (a : Option ℕ) → a ≡ None → ((n : ℕ) → is_ready codec past n ≡ false) → ((n : ℕ) → is_out past n ≡ false) → NothingIsLeft codec (TakeReady a ∷ past)
   end_step past None e calm out = record {
     waits = λ n. ap (λ o. is_some o && not (is_out past n) && not (is_decided past n)) (ready_same codec (TakeReady None) past n refl refl) ∙ calm n;
     out = out;
   }
   end_step past (Some m) e calm out = absurd (cc)
 
-  some_left : (past : List (Call S)) (m : ℕ) → is_ready codec past m ≡ true → left_of past ≤ 0 → ⊥
+  some_left : (past : List (ReceiverCall S)) (m : ℕ) → is_ready codec past m ≡ true → left_of past ≤ 0 → ⊥
   some_left past m w none = let more : suc (left_of (turned past (Some m) m)) ≤ left_of past = turn_left past m w in omega arith
 
-  zero_none : (past : List (Call S)) (o : Option ℕ) → ready_answer codec past ≡ o → left_of past ≤ 0 → o ≡ None
+  zero_none : (past : List (ReceiverCall S)) (o : Option ℕ) → ready_answer codec past ≡ o → left_of past ≤ 0 → o ≡ None
   zero_none past None e none = refl
   zero_none past (Some m) e none = absurd (some_left past m (take_waits codec past m (sym e)) none)
 
@@ -224,7 +224,7 @@ module _ {S : Type 0} (codec : Coding S) (session : Session) where
   ])
   drained_step n r None e out less more = ended_step r e out
   drained_step n r (Some m) e out less more =
-      let past : List (Call S) = r.world.receiver in
+      let past : List (ReceiverCall S) = r.world.receiver in
       let w : is_ready codec past m ≡ true = take_waits codec past m (sym e) in
       let fewer_left : suc (left_of (turned codec past (ready_answer codec past) m)) ≤ left_of past = subst (λ a. suc (left_of (turned codec past a m)) ≤ left_of past) (sym e) (turn_left codec past m w) in
       more (with_event codec session (Decodes m true) (with_event codec session TakesReady r))
@@ -333,7 +333,7 @@ module _ {S : Type 0} (codec : Coding S) (session : Session) where
   pub run_empty : (pictures : List Picture) (lines : List ScriptLine) (r : Run S) → played codec session lines (Some (begun pictures)) ≡ Some r → NothingIsLeft codec r.world.receiver
   run_empty pictures lines r e = subst IsEmptyIn e (played_empty lines (Some (begun pictures)) (begun_empty pictures))
 
-  pub served_so : (past : List (Call S)) → ReadyIsServed codec past → NothingIsLeft codec past → AllIsServed codec past
+  pub served_so : (past : List (ReceiverCall S)) → ReadyIsServed codec past → NothingIsLeft codec past → AllIsServed codec past
   served_so past served left n is = go (served n is)
     where
       go : IsServed codec past n → WasShown past n ⊎ WasOlder past n

@@ -13,11 +13,12 @@ use Rattle.sal_chain.specs.declared.stored_state.StoredState.{StoredState}
 use Rattle.sal_chain.specs.Held.{with_name, not_below}
 use Rattle.sal_sender.specs.declared.choice.Choice.{Choice}
 use Rattle.sal_sender.specs.Past.{choices, pictures}
-use Rattle.sal_sender.specs.Chain.{name_in, target_of, made_at, state_at}
+use Rattle.sal_chain.specs.Held.{name_in}
+use Rattle.sal_sender.specs.Chain.{target_of, made_at, state_at}
 use Rattle.sal_sender.specs.OneThread.{Session}
 use Rattle.sal_sender.specs.Sound.{AreChained}
 use Rattle.sal_sender.proofs.Thread.{find_has, find_true}
-use Rattle.sal_receiver.specs.Past.{Call, taken, floor}
+use Rattle.sal_receiver.specs.Past.{ReceiverCall, taken, floor}
 use Rattle.sal_receiver.specs.Held.{zero_name, decoded, held, held_under}
 use Rattle.sal_receiver.specs.Ready.{ready_source, source_now, source_name}
 use Rattle.sal_world.specs.World.{WorldPast}
@@ -134,10 +135,10 @@ module _ {S : Type 0} (codec : Coding S) (session : Session) where
   frame_now w n source g names parts own h = now_step w n source (leb (floor_of (taken w.receiver)) n) (has_all (fragments_of n (taken w.receiver))) g names parts own refl h
 
   -- the world after a call of the receiver
-  abbrev pub receives : WorldPast S → Call S → WorldPast S
+  abbrev pub receives : WorldPast S → ReceiverCall S → WorldPast S
   receives w call = record w { receiver = call ∷ w.receiver }
 
-  next_step : (w : WorldPast S) (call : Call S) (n : ℕ) (source : S) (o : Option S) → Given w → NamesDifferIn codec w → Each (Has (fragments codec session w.sender)) (taken (call ∷ w.receiver)) → Each (IsStateOfNumber codec session (receives w call).sender (receives w call).receiver) (decoded codec (call ∷ w.receiver)) → (has_all (fragments_of n (taken w.receiver)) ≡ true → has_all (fragments_of n (taken (call ∷ w.receiver))) ≡ true) → ((s : S) → o ≡ Some s → IsFrameOfNumber codec session w.sender w.receiver n s) → or_else o (source_now codec (call ∷ w.receiver) n) ≡ Some source → IsFrameOfNumber codec session (receives w call).sender (receives w call).receiver n source
+  next_step : (w : WorldPast S) (call : ReceiverCall S) (n : ℕ) (source : S) (o : Option S) → Given w → NamesDifferIn codec w → Each (Has (fragments codec session w.sender)) (taken (call ∷ w.receiver)) → Each (IsStateOfNumber codec session (receives w call).sender (receives w call).receiver) (decoded codec (call ∷ w.receiver)) → (has_all (fragments_of n (taken w.receiver)) ≡ true → has_all (fragments_of n (taken (call ∷ w.receiver))) ≡ true) → ((s : S) → o ≡ Some s → IsFrameOfNumber codec session w.sender w.receiver n s) → or_else o (source_now codec (call ∷ w.receiver) n) ≡ Some source → IsFrameOfNumber codec session (receives w call).sender (receives w call).receiver n source
   next_step w call n source None g names parts own stays old h = frame_now (receives w call) n source g names parts own h
   next_step w call n source (Some s) g names parts own stays old h =
       let is : s ≡ source = some_same s source h in
@@ -145,7 +146,7 @@ module _ {S : Type 0} (codec : Coding S) (session : Session) where
       frame_of_whole (receives w call) n source g parts (stays f.whole) (λ sent. f.from_source ∙ ap (λ (c : Choice). state_at codec w.sender c.source) (some_same f.choice sent.choice (sym f.chosen ∙ sent.found)))
 
   -- each frame that is ready after a call is so
-  pub next_frames : (w : WorldPast S) (call : Call S) → Given w → NamesDifferIn codec w → Each (Has (fragments codec session w.sender)) (taken (call ∷ w.receiver)) → Each (IsStateOfNumber codec session (receives w call).sender (receives w call).receiver) (decoded codec (call ∷ w.receiver)) → ((n : ℕ) → has_all (fragments_of n (taken w.receiver)) ≡ true → has_all (fragments_of n (taken (call ∷ w.receiver))) ≡ true) → ((n : ℕ) (source : S) → ready_source codec w.receiver n ≡ Some source → IsFrameOfNumber codec session w.sender w.receiver n source)
+  pub next_frames : (w : WorldPast S) (call : ReceiverCall S) → Given w → NamesDifferIn codec w → Each (Has (fragments codec session w.sender)) (taken (call ∷ w.receiver)) → Each (IsStateOfNumber codec session (receives w call).sender (receives w call).receiver) (decoded codec (call ∷ w.receiver)) → ((n : ℕ) → has_all (fragments_of n (taken w.receiver)) ≡ true → has_all (fragments_of n (taken (call ∷ w.receiver))) ≡ true) → ((n : ℕ) (source : S) → ready_source codec w.receiver n ≡ Some source → IsFrameOfNumber codec session w.sender w.receiver n source)
       → (n : ℕ) (source : S) → ready_source codec (call ∷ w.receiver) n ≡ Some source → IsFrameOfNumber codec session (receives w call).sender (receives w call).receiver n source
   unfolding ready_source
   next_frames w call g names parts own stays old n source h = next_step w call n source (ready_source codec w.receiver n) g names parts own (stays n) (old n) h

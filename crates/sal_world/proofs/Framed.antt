@@ -14,13 +14,13 @@ use Rattle.sal_sender.specs.declared.answers.Next.TheVariants.{Started, NotChose
 use Rattle.sal_sender.specs.declared.answers.Chosen.TheVariants.{NoPicture, Waiting, Sent, Nothing, Memory}
 use Rattle.sal_sender.specs.declared.outcome.Gave.{Gave}
 use Rattle.sal_sender.specs.declared.outcome.Gave.TheVariants.{Frame as GaveFrame, Oversize as GaveOversize, NoMemory as GaveNoMemory}
-use Rattle.sal_sender.specs.Past.{Call, Past, NextPicture, TakeJob, Report, Choose, Hear, choices, pictures, picture_in, opened, quantiser, now, tip, last_job}
+use Rattle.sal_sender.specs.Past.{SenderCall, Past, NextPicture, TakeJob, Report, Choose, Hear, choices, pictures, picture_in, opened, quantiser, now, tip, last_job}
 use Rattle.sal_sender.specs.Chain.{picture_at, state, state_at}
 use Rattle.sal_sender.specs.OneThread.{Session}
 use Rattle.sal_sender.specs.Jobs.{Job, kind_of, base, plan, jobs}
 use Rattle.sal_sender.specs.Acks.{safe}
 use Rattle.sal_sender.specs.Choosing.{SizedJob, eligible, is_spare, is_fine, is_coarse, size_of, choice_of, datagram_count, candidate_fits, may_send, candidates, needed, lost_since, reported, choose_found, choose_reported, choose_needed, choose_opened, chosen}
-use Rattle.sal_sender.specs.Promises.{IsLegal}
+use Rattle.sal_sender.specs.Promises.{IsLegalSender}
 use Rattle.sal_sender.proofs.Thread.{ArePicturesOf, IsChosen, chosen_is, find_has, find_true, has_filter, picture_before, state_before, thread_of_legal}
 use Rattle.sal_world.proofs.ListLemmas.{has_either, has_source, mapped, each_has}
 
@@ -51,7 +51,7 @@ none_is : {X : Type 0} (x : X) → None ≡ Some x → ⊥
 none_is x e = cc
 
 -- a call that starts no picture and closes none
-quiet : (call : Call) (past : Past) → opened (call ∷ past) ≡ opened past → choices (call ∷ past) ≡ choices past → quantiser (call ∷ past) ≡ quantiser past → pictures (call ∷ past) ≡ pictures past ++ [] → IsLimited past → IsLimited (call ∷ past)
+quiet : (call : SenderCall) (past : Past) → opened (call ∷ past) ≡ opened past → choices (call ∷ past) ≡ choices past → quantiser (call ∷ past) ≡ quantiser past → pictures (call ∷ past) ≡ pictures past ++ [] → IsLimited past → IsLimited (call ∷ past)
 quiet call past a b c d is =
     let long : length (pictures (call ∷ past)) ≡ length (pictures past) = ap (λ (xs : List Picture). length xs) (d ∙ append-nil (pictures past)) in
     let few : length (choices (call ∷ past)) ≡ length (choices past) = ap (λ (xs : List Choice). length xs) b in
@@ -111,7 +111,7 @@ module _ {S : Type 0} (codec : Coding S) (session : Session) where
         pictures = omega (arith, long, is.pictures);
       }
 
-  pub limited : (past : Past) → IsLegal codec session past → IsLimited past
+  pub limited : (past : Past) → IsLegalSender codec session past → IsLimited past
   limited [] legal = record { q = omega arith; q_open = λ before e. absurd (none_is before e); chosen = omega arith; chosen_open = λ before e. absurd (none_is before e); pictures = omega arith }
   limited (NextPicture picture moment (Started jobs) ∷ past) legal = start_next past picture moment jobs (started_low past jobs legal.0) (limited past legal.1)
   limited (NextPicture picture moment (NotChosen n) ∷ past) legal = quiet (NextPicture picture moment (NotChosen n)) past refl refl refl refl (limited past legal.1)
@@ -219,11 +219,11 @@ module _ {S : Type 0} (codec : Coding S) (session : Session) where
   chosen_made past moment choice burst (inl h) is = opened_made past (max (now past) moment) choice burst (opened past) refl is h
   chosen_made past moment choice burst (inr h) is = absurd (cc)
 
-  wider : (past : Past) (more : List Picture) → IsLegal codec session past → AreMade codec (pictures past) (choices past) → AreMade codec (pictures past ++ more) (choices past)
+  wider : (past : Past) (more : List Picture) → IsLegalSender codec session past → AreMade codec (pictures past) (choices past) → AreMade codec (pictures past ++ more) (choices past)
   wider past more legal made = made_more codec (pictures past) more (choices past) (thread_of_legal codec session past legal).shot made
 
   -- each choice of a legal past has its frame
-  pub made_of_legal : (past : Past) → IsLegal codec session past → AreMade codec (pictures past) (choices past)
+  pub made_of_legal : (past : Past) → IsLegalSender codec session past → AreMade codec (pictures past) (choices past)
   made_of_legal [] legal = tt
   made_of_legal (NextPicture picture moment answer ∷ past) legal = wider past (picture_in (NextPicture picture moment answer)) legal.1 (made_of_legal past legal.1)
   made_of_legal (TakeJob answer ∷ past) legal = wider past [] legal.1 (made_of_legal past legal.1)

@@ -15,10 +15,11 @@ use Rattle.sal_sender.specs.declared.answers.Chosen.TheVariants.{Sent}
 use Rattle.sal_sender.specs.Past.{Past, Report, Choose, choices, pictures, datagrams, floor as sender_floor}
 use Rattle.sal_sender.specs.Choosing.{reported}
 use Rattle.sal_sender.proofs.Sound.{sound}
-use Rattle.sal_sender.specs.Chain.{name_in, state, state_at}
+use Rattle.sal_chain.specs.Held.{name_in}
+use Rattle.sal_sender.specs.Chain.{state, state_at}
 use Rattle.sal_sender.specs.OneThread.{Session}
 use Rattle.sal_sender.specs.Acks.{acknowledged, ack_in, named_from, with_named}
-use Rattle.sal_receiver.specs.Past.{Call, Deliver, TakeReady, Decoding, floor, shown}
+use Rattle.sal_receiver.specs.Past.{ReceiverCall, Deliver, TakeReady, Decoding, floor, shown}
 use Rattle.sal_receiver.specs.Held.{zero_name, held, held_under, decoded}
 use Rattle.sal_receiver.proofs.Served.{served}
 use Rattle.sal_world.specs.World.{WorldEvent, WorldPast, after}
@@ -117,7 +118,7 @@ module _ {S : Type 0} (codec : Coding S) (session : Session) where
   pub shown_right : (w : WorldPast S) → Invariant codec session w → ShownIsTheDecoding codec w
   shown_right w inv n picture has = each_has (λ (s : ℕ × Picture). IsDecoding codec w.sender s.0 s.1) (shown w.receiver) (n, picture) inv.receiver.seen has
 
-  taken_in : (w : WorldPast S) (call : Call S) → IsOfSentFragment codec session w.sender call → IsTakenIn call
+  taken_in : (w : WorldPast S) (call : ReceiverCall S) → IsOfSentFragment codec session w.sender call → IsTakenIn call
   taken_in w (Deliver came moment answer) of = of.3
   taken_in w (TakeReady answer) of = tt
   taken_in w (Decoding n outcome answer) of = tt

@@ -11,9 +11,10 @@ use Rattle.sal_wire.specs.Parsing.{parsed}
 use Rattle.sal_wire.proofs.Again.{fragment_again}
 use Rattle.sal_sender.specs.declared.choice.Choice.{Choice}
 use Rattle.sal_sender.specs.Past.{Past, choices, pictures}
-use Rattle.sal_sender.specs.Chain.{name_in, picture_at, state, made}
+use Rattle.sal_chain.specs.Held.{name_in}
+use Rattle.sal_sender.specs.Chain.{picture_at, state, made}
 use Rattle.sal_sender.specs.OneThread.{Session, one_thread}
-use Rattle.sal_sender.specs.Promises.{IsLegal}
+use Rattle.sal_sender.specs.Promises.{IsLegalSender}
 use Rattle.sal_sender.specs.Sound.{AreChained}
 use Rattle.sal_sender.proofs.Thread.{ArePicturesOf, thread_of_legal}
 use Rattle.sal_sender.proofs.Sound.{chained_of_legal}
@@ -47,7 +48,7 @@ module _ {S : Type 0} (codec : Coding S) (session : Session) where
     pub pictures_of : ArePicturesOf (length shot) chosen
     pub few : length chosen ≤ 1048575
 
-  pub given_of_legal : IsLawful codec → IsSession session → (past : Past) → IsLegal codec session past → Each (HasSize session) (pictures past) → IsGiven (pictures past) (choices past)
+  pub given_of_legal : IsLawful codec → IsSession session → (past : Past) → IsLegalSender codec session past → Each (HasSize session) (pictures past) → IsGiven (pictures past) (choices past)
   given_of_legal law ok past legal sizes =
       let c = limited codec session past legal in
       record {

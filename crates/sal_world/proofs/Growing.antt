@@ -10,14 +10,15 @@ use Rattle.sal_wire.specs.declared.datagram.Ack.{Ack}
 use Rattle.sal_chain.specs.declared.stored_state.StoredState.{StoredState}
 use Rattle.sal_sender.specs.declared.choice.Choice.{Choice}
 use Rattle.sal_sender.specs.Past.{Past, choices, pictures, tip}
-use Rattle.sal_sender.specs.Chain.{name_in, target_of, made_at, state}
+use Rattle.sal_chain.specs.Held.{name_in}
+use Rattle.sal_sender.specs.Chain.{target_of, made_at, state}
 use Rattle.sal_sender.specs.OneThread.{Session, one_thread}
 use Rattle.sal_sender.specs.Acks.{acknowledged}
 use Rattle.sal_sender.specs.Sound.{AreChained, IsSound}
 use Rattle.sal_sender.proofs.Thread.{ArePicturesOf, made_before, thread_before}
 use Rattle.sal_sender.proofs.Older.{made_older, has_sent}
 use Rattle.sal_sender.proofs.Sound.{tip_is}
-use Rattle.sal_receiver.specs.Past.{Call, Deliver, TakeReady, Decoding, taken, shown}
+use Rattle.sal_receiver.specs.Past.{ReceiverCall, Deliver, TakeReady, Decoding, taken, shown}
 use Rattle.sal_receiver.specs.Past.{floor as receiver_floor}
 use Rattle.sal_receiver.specs.Held.{decoded}
 use Rattle.sal_world.specs.World.{WorldPast, acks_of}
@@ -75,7 +76,7 @@ module _ {S : Type 0} (codec : Coding S) (session : Session) where
   abbrev pub Grows : WorldPast S → Past → Type 0
   Grows w past = Extends (pictures w.sender) (choices w.sender) (pictures past) (choices past)
 
-  grown_sent : (w : WorldPast S) (past : Past) → Grows w past → (call : Call S) → IsOfSentFragment codec session w.sender call → IsOfSentFragment codec session past call
+  grown_sent : (w : WorldPast S) (past : Past) → Grows w past → (call : ReceiverCall S) → IsOfSentFragment codec session w.sender call → IsOfSentFragment codec session past call
   grown_sent w past x (Deliver came moment answer) of = (of.0, x.thread of.0 of.1, of.2, of.3)
   grown_sent w past x (TakeReady answer) of = tt
   grown_sent w past x (Decoding n outcome answer) of = tt

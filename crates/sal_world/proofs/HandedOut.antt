@@ -7,11 +7,11 @@ use Rattle.sal_chain.specs.declared.stored_state.StoredState.{StoredState}
 use Rattle.sal_reasm.specs.Offer.{or_else}
 use Rattle.sal_receiver.specs.declared.answers.Done.{Done}
 use Rattle.sal_receiver.specs.declared.answers.Done.TheVariants.{Stranger, Returned, Unfit, Misnamed, Older, Show}
-use Rattle.sal_receiver.specs.Past.{Call, Deliver, TakeReady, Decoding, Sound, Faulty, NoMemory, taken}
+use Rattle.sal_receiver.specs.Past.{ReceiverCall, Deliver, TakeReady, Decoding, Sound, Faulty, NoMemory, taken}
 use Rattle.sal_receiver.specs.Held.{decoded}
-use Rattle.sal_receiver.specs.Ready.{least, ready_source, source_now, is_ready, is_out, is_decided, decides, take_answer}
+use Rattle.sal_receiver.specs.Ready.{least, ready_source, source_now, is_ready, is_out, is_decided, decides, ready_answer}
 use Rattle.sal_receiver.specs.Answers.{outcome_answer}
-use Rattle.sal_receiver.specs.Promises.{IsLegal}
+use Rattle.sal_receiver.specs.Promises.{IsLegalReceiver}
 use Rattle.sal_world.proofs.ListLemmas.{each_map, some_same}
 use Rattle.sal_world.proofs.Ordered.{NotIn, Distinct}
 
@@ -57,36 +57,36 @@ clash_of_bools b p q = absurd (cc)
 
 module _ {S : Type 0} (codec : Coding S) where
   -- a number that was ready and isn't decided
-  pub record IsOpen (past : List (Call S)) (n : ℕ) : Type 0 where
+  pub record IsOpen (past : List (ReceiverCall S)) (n : ℕ) : Type 0 where
     pub undecided : is_decided past n ≡ false
     pub some : is_some (ready_source codec past n) ≡ true
 
-  open_later : (call : Call S) (past : List (Call S)) (n : ℕ) → decides n call ≡ false → IsOpen past n → IsOpen (call ∷ past) n
+  open_later : (call : ReceiverCall S) (past : List (ReceiverCall S)) (n : ℕ) → decides n call ≡ false → IsOpen past n → IsOpen (call ∷ past) n
   unfolding ready_source
   open_later call past n is open_is = record {
     undecided = rw is open_is.undecided;
     some = some_else (ready_source codec past n) (source_now codec (call ∷ past) n) open_is.some;
   }
 
-  waits_open : (past : List (Call S)) (n : ℕ) → is_ready codec past n ≡ true → IsOpen past n
+  waits_open : (past : List (ReceiverCall S)) (n : ℕ) → is_ready codec past n ≡ true → IsOpen past n
   waits_open past n h =
       let a = and_parts (is_some (ready_source codec past n) && not (is_out past n)) (not (is_decided past n)) h in
       let b = and_parts (is_some (ready_source codec past n)) (not (is_out past n)) a.0 in
       record { undecided = not_true (is_decided past n) a.1; some = b.0 }
 
-  took_open : (past : List (Call S)) (m n : ℕ) → Some m ≡ take_answer codec past → (is_out past n ≡ true → IsOpen past n) → (eqb m n || is_out past n) ≡ true → IsOpen past n
+  took_open : (past : List (ReceiverCall S)) (m n : ℕ) → Some m ≡ ready_answer codec past → (is_out past n ≡ true → IsOpen past n) → (eqb m n || is_out past n) ≡ true → IsOpen past n
   took_open past m n answer more h = elim (true_or (eqb m n) (is_out past n) h) [
     | inl a ↦ waits_open past n (subst (λ k. is_ready codec past k ≡ true) (eqb-true _ _ a) (least_meets (λ k. is_ready codec past k ≡ true) (filter (is_ready codec past) (map (λ e. e.number) (taken past))) m (filter_meets (is_ready codec past) (map (λ e. e.number) (taken past))) (sym answer)))
     | inr b ↦ more b
   ]
 
-  reported_open : (call : Call S) (past : List (Call S)) (m n : ℕ) → (eqb m n ≡ false → decides n call ≡ false) → (is_out past n ≡ true → IsOpen past n) → (not (eqb m n) && is_out past n) ≡ true → IsOpen (call ∷ past) n
+  reported_open : (call : ReceiverCall S) (past : List (ReceiverCall S)) (m n : ℕ) → (eqb m n ≡ false → decides n call ≡ false) → (is_out past n ≡ true → IsOpen past n) → (not (eqb m n) && is_out past n) ≡ true → IsOpen (call ∷ past) n
   reported_open call past m n other more h =
       let both = and_parts (not (eqb m n)) (is_out past n) h in
       open_later call past n (other (not_true (eqb m n) both.0)) (more both.1)
 
   -- what is out was ready and isn't decided
-  pub out_open : (past : List (Call S)) (n : ℕ) → IsLegal codec past → is_out past n ≡ true → IsOpen past n
+  pub out_open : (past : List (ReceiverCall S)) (n : ℕ) → IsLegalReceiver codec past → is_out past n ≡ true → IsOpen past n
   out_open [] n legal h = absurd (cc)
   out_open (Deliver came moment answer ∷ past) n legal h = open_later (Deliver came moment answer) past n refl (out_open past n legal.1 h)
   out_open (TakeReady None ∷ past) n legal h = open_later (TakeReady None) past n refl (out_open past n legal.1 h)
@@ -100,13 +100,13 @@ module _ {S : Type 0} (codec : Coding S) where
 
   -- ---- decoded numbers
 
-  still_decided : (call : Call S) (past : List (Call S)) (k : StoredState S) → is_decided past k.number ≡ true → is_decided (call ∷ past) k.number ≡ true
+  still_decided : (call : ReceiverCall S) (past : List (ReceiverCall S)) (k : StoredState S) → is_decided past k.number ≡ true → is_decided (call ∷ past) k.number ≡ true
   still_decided call past k h = either_true (decides k.number call) (is_decided past k.number) h
 
-  abbrev AreDecided : List (Call S) → List (StoredState S) → Type 0
+  abbrev AreDecided : List (ReceiverCall S) → List (StoredState S) → Type 0
   AreDecided past kept = Each (λ k. is_decided past k.number ≡ true) kept
 
-  later_decided : (call : Call S) (past : List (Call S)) (kept : List (StoredState S)) → AreDecided past kept → AreDecided (call ∷ past) kept
+  later_decided : (call : ReceiverCall S) (past : List (ReceiverCall S)) (kept : List (StoredState S)) → AreDecided past kept → AreDecided (call ∷ past) kept
   later_decided call past kept each = each_map (λ k. is_decided past k.number ≡ true) (λ k. is_decided (call ∷ past) k.number ≡ true) (still_decided call past) kept each
 
   first_true : (a b : Bool) → a ≡ true → (a || b) ≡ true
@@ -114,7 +114,7 @@ module _ {S : Type 0} (codec : Coding S) where
   first_true false b h = absurd (cc)
 
   -- each number whose state is held is decided
-  pub decoded_decided : (past : List (Call S)) → AreDecided past (decoded codec past)
+  pub decoded_decided : (past : List (ReceiverCall S)) → AreDecided past (decoded codec past)
   decoded_decided [] = tt
   decoded_decided (Deliver came moment answer ∷ past) = later_decided (Deliver came moment answer) past (decoded codec past) (decoded_decided past)
   decoded_decided (TakeReady answer ∷ past) = later_decided (TakeReady answer) past (decoded codec past) (decoded_decided past)
@@ -133,10 +133,10 @@ module _ {S : Type 0} (codec : Coding S) where
   answered_out true answer other never h = refl
   answered_out false answer other never h = absurd (never h)
 
-  pub not_in : (past : List (Call S)) (n : ℕ) → IsLegal codec past → is_out past n ≡ true → NotIn n (decoded codec past)
+  pub not_in : (past : List (ReceiverCall S)) (n : ℕ) → IsLegalReceiver codec past → is_out past n ≡ true → NotIn n (decoded codec past)
   not_in past n legal out = each_map (λ k. is_decided past k.number ≡ true) (λ k. k.number ≢ n) (λ (k : StoredState S) (is : is_decided past k.number ≡ true) (e : k.number ≡ n). clash_of_bools (is_decided past n) (subst (λ m. is_decided past m ≡ true) e is) (out_open past n legal out).undecided) (decoded codec past) (decoded_decided past)
 
-  pub distinct : (past : List (Call S)) → IsLegal codec past → Distinct (decoded codec past)
+  pub distinct : (past : List (ReceiverCall S)) → IsLegalReceiver codec past → Distinct (decoded codec past)
   distinct [] legal = tt
   distinct (Deliver came moment answer ∷ past) legal = distinct past legal.1
   distinct (TakeReady answer ∷ past) legal = distinct past legal.1

@@ -16,8 +16,9 @@ use Rattle.sal_sender.specs.declared.answers.Ignore.{Ignore}
 use Rattle.sal_sender.specs.declared.answers.Ignore.TheVariants.{Old}
 use Rattle.sal_sender.specs.declared.answers.HeardAck.{HeardAck}
 use Rattle.sal_sender.specs.declared.answers.HeardAck.TheVariants.{Heard, Ignored}
-use Rattle.sal_sender.specs.Past.{Call as SenderCall, Hear, choices, pictures, floor, tip, sent}
-use Rattle.sal_sender.specs.Chain.{name_in, state_at}
+use Rattle.sal_sender.specs.Past.{SenderCall, Hear, choices, pictures, floor, tip, sent}
+use Rattle.sal_chain.specs.Held.{name_in}
+use Rattle.sal_sender.specs.Chain.{state_at}
 use Rattle.sal_sender.specs.OneThread.{Session, one_thread}
 use Rattle.sal_sender.specs.Acks.{acknowledged, named_from, heard}
 use Rattle.sal_sender.specs.Choosing.{first_in}

@@ -11,7 +11,7 @@ use Rattle.sal_sender.specs.Chain.{NamesDiffer}
 use Rattle.sal_sender.specs.OneThread.{Session}
 use Rattle.sal_sender.specs.Choosing.{chosen}
 use Rattle.sal_sender.specs.Answers.{next_answer}
-use Rattle.sal_sender.specs.Promises.{IsLegal}
+use Rattle.sal_sender.specs.Promises.{IsLegalSender}
 use Rattle.sal_sender.proofs.Thread.{thread_of_legal}
 use Rattle.sal_sender.proofs.Older.{names_older, names_before}
 use Rattle.sal_sender.proofs.Sound.{chained_of_legal, sound}
@@ -30,10 +30,10 @@ use Rattle.sal_world.proofs.Delivering.{down_kept}
 module _ {S : Type 0} (codec : Coding S) (session : Session) where
   -- ---- names that differ after an event differed before
 
-  before_more : (past : Past) (more : List Picture) → IsLegal codec session past → NamesDiffer codec (pictures past ++ more) (choices past) → NamesDiffer codec (pictures past) (choices past)
+  before_more : (past : Past) (more : List Picture) → IsLegalSender codec session past → NamesDiffer codec (pictures past ++ more) (choices past) → NamesDiffer codec (pictures past) (choices past)
   before_more past more is names = names_before codec (pictures past) more (choices past) (thread_of_legal codec session past is).shot names
 
-  before_choice : (past : Past) (moment : ℕ) (answer : Chosen) → IsLegal codec session (Choose moment answer ∷ past) → NamesDiffer codec (pictures past ++ []) (choices (Choose moment answer ∷ past)) → NamesDiffer codec (pictures past) (choices past)
+  before_choice : (past : Past) (moment : ℕ) (answer : Chosen) → IsLegalSender codec session (Choose moment answer ∷ past) → NamesDiffer codec (pictures past ++ []) (choices (Choose moment answer ∷ past)) → NamesDiffer codec (pictures past) (choices past)
   before_choice past moment NoPicture is names = before_more past [] is.1 names
   before_choice past moment (Waiting id) is names = before_more past [] is.1 names
   before_choice past moment (Nothing budget sizes) is names = before_more past [] is.1 names

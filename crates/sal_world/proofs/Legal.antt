@@ -3,17 +3,17 @@ use Rattle.std.proofs.Common.{ℕ, List, [], ◌∷◌, Option, Some, None, refl
 use Rattle.sal_codec.specs.Coding.{Coding}
 use Rattle.sal_wire.specs.declared.datagram.Ack.{Ack}
 use Rattle.sal_sender.specs.OneThread.{Session}
-use Rattle.sal_sender.specs.Promises.{IsLegal as IsLegalSender, IsWhatOneThreadSends, FitsItsBudget}
+use Rattle.sal_sender.specs.Promises.{IsLegalSender, IsWhatOneThreadSends, FitsItsBudget}
 use Rattle.sal_sender.proofs.Thread.{thread}
 use Rattle.sal_sender.proofs.Budgets.{budget_of_legal}
-use Rattle.sal_receiver.specs.Promises.{IsLegal, ReadyIsServed, AreFit}
+use Rattle.sal_receiver.specs.Promises.{IsLegalReceiver, ReadyIsServed, AreFit}
 use Rattle.sal_receiver.proofs.Served.{served}
 use Rattle.sal_world.specs.World.{WorldEvent, Starts, TakesJob, Reports, Chooses, Delivers, Hears, TakesReady, Decodes, Passes, WorldPast, after, happens, delivered_if_sent, heard_if_sent, at_number, sent, acks}
 
 module _ {S : Type 0} (codec : Coding S) (session : Session) where
   pub record IsLegalWorld (w : WorldPast S) : Type 0 where
     pub sender : IsLegalSender codec session w.sender
-    pub receiver : IsLegal codec w.receiver
+    pub receiver : IsLegalReceiver codec w.receiver
 
   pub came_down : (w : WorldPast S) (o : Option (List ℕ)) → IsLegalWorld w → IsLegalWorld (delivered_if_sent codec w o)
   came_down w None is = is

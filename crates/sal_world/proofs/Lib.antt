@@ -1,5 +1,6 @@
 mod Toy
 mod Runs
+mod Journals
 pub mod ListLemmas
 pub mod Framed
 pub mod Numbers

@@ -11,7 +11,8 @@ use Rattle.sal_wire.specs.Fields.{FragmentFields}
 use Rattle.sal_wire.specs.Fragmentation.{fragment_count, fragment_data, below}
 use Rattle.sal_sender.specs.declared.choice.Choice.{Choice}
 use Rattle.sal_sender.specs.Past.{floor_of}
-use Rattle.sal_sender.specs.Chain.{name_in, picture_at, target_of, made_at, state, made}
+use Rattle.sal_chain.specs.Held.{name_in}
+use Rattle.sal_sender.specs.Chain.{picture_at, target_of, made_at, state, made}
 use Rattle.sal_sender.specs.OneThread.{Session, one_thread, burst_after, fragment, pause_of}
 use Rattle.sal_sender.specs.Jobs.{kind_of}
 use Rattle.sal_sender.specs.Sound.{AreChained}

@@ -18,9 +18,9 @@ use Rattle.sal_reasm.specs.Offer.{or_else, clash_with_fragments}
 use Rattle.sal_reasm.specs.Stands.{AreNamed}
 use Rattle.sal_receiver.specs.declared.answers.Delivered.{Delivered}
 use Rattle.sal_receiver.specs.declared.answers.Delivered.TheVariants.{Taken, Ended, Refused, Memory}
-use Rattle.sal_receiver.specs.Past.{Call, Deliver, TakeReady, Decoding, taken}
-use Rattle.sal_receiver.specs.Ready.{source_now, ready_source, take_answer}
-use Rattle.sal_receiver.specs.Promises.{IsLegal}
+use Rattle.sal_receiver.specs.Past.{ReceiverCall, Deliver, TakeReady, Decoding, taken}
+use Rattle.sal_receiver.specs.Ready.{source_now, ready_source, ready_answer}
+use Rattle.sal_receiver.specs.Promises.{IsLegalReceiver}
 use Rattle.sal_receiver.specs.Handed.{HandedFrame, IsReadyFrame}
 use Rattle.sal_receiver.proofs.PartsLemmas.{IsSame, index_there, same_again}
 use Rattle.sal_receiver.proofs.Was.{taken_like, ready_whole}
@@ -96,7 +96,7 @@ taken_step false e es n read names like all = part_step (eqb e.number n) e es n 
 
 module _ {S : Type 0} where
   -- what came, where it is a fragment, was read
-  abbrev pub IsReadIn : Call S → Type 0
+  abbrev pub IsReadIn : ReceiverCall S → Type 0
   IsReadIn (Deliver (Ok (FragmentMessage e)) moment answer) = IsRead e
   IsReadIn (Deliver (Ok (AckMessage ack)) moment answer) = Unit {0}
   IsReadIn (Deliver (Ok (ByeMessage session last)) moment answer) = Unit {0}
@@ -106,7 +106,7 @@ module _ {S : Type 0} where
 
   -- ---- fragments that were taken
 
-  call_taken : (call : Call S) (past : List (Call S)) → IsReadIn call → Each IsRead (taken past) → Each IsRead (taken (call ∷ past))
+  call_taken : (call : ReceiverCall S) (past : List (ReceiverCall S)) → IsReadIn call → Each IsRead (taken past) → Each IsRead (taken (call ∷ past))
   call_taken (Deliver (Ok (FragmentMessage e)) moment (Taken ack)) past is all = with_read (ltb e.number (floor_of (taken past))) e (taken past) is all
   call_taken (Deliver (Ok (FragmentMessage e)) moment (Ended last)) past is all = all
   call_taken (Deliver (Ok (FragmentMessage e)) moment (Refused cause)) past is all = all
@@ -128,7 +128,7 @@ module _ {S : Type 0} (codec : Coding S) where
   read_in bytes moment answer = read_step (parsed bytes) moment answer (came_read bytes)
 
   -- the fragments of a whole frame say the same after a call
-  parts_stay : (call : Call S) (past : List (Call S)) (n : ℕ) → IsLegal codec (call ∷ past) → IsReadIn call → Each IsRead (taken past) → has_all (fragments_of n (taken past)) ≡ true → IsSame (fragments_of n (taken (call ∷ past))) (fragments_of n (taken past))
+  parts_stay : (call : ReceiverCall S) (past : List (ReceiverCall S)) (n : ℕ) → IsLegalReceiver codec (call ∷ past) → IsReadIn call → Each IsRead (taken past) → has_all (fragments_of n (taken past)) ≡ true → IsSame (fragments_of n (taken (call ∷ past))) (fragments_of n (taken past))
   parts_stay (Deliver (Ok (FragmentMessage e)) moment (Taken ack)) past n is_legal read all whole =
       taken_step (ltb e.number (floor_of (taken past))) e (taken past) n read (named n (taken past) all) (taken_like codec past e moment ack is_legal) whole
   parts_stay (Deliver (Ok (FragmentMessage e)) moment (Ended last)) past n is_legal read all whole = same_parts (fragments_of n (taken past))
@@ -144,16 +144,16 @@ module _ {S : Type 0} (codec : Coding S) where
   else_same None p s h = absurd (cc)
   else_same (Some x) p s h = h
 
-  ready_stays : (call : Call S) (past : List (Call S)) (n : ℕ) (source : S) → ready_source codec past n ≡ Some source → ready_source codec (call ∷ past) n ≡ Some source
+  ready_stays : (call : ReceiverCall S) (past : List (ReceiverCall S)) (n : ℕ) (source : S) → ready_source codec past n ≡ Some source → ready_source codec (call ∷ past) n ≡ Some source
   unfolding ready_source
   ready_stays call past n source h = else_same (ready_source codec past n) (source_now codec (call ∷ past) n) source h
 
   -- a frame that was handed out, and what was taken was read
-  pub record IsHandedOut (past : List (Call S)) (h : HandedFrame S) : Type 0 where
+  pub record IsHandedOut (past : List (ReceiverCall S)) (h : HandedFrame S) : Type 0 where
     pub read : Each IsRead (taken past)
     pub of : IsReadyFrame codec past h
 
-  pub call_handed : (call : Call S) (past : List (Call S)) (h : HandedFrame S) → IsLegal codec (call ∷ past) → IsReadIn call → IsHandedOut past h → IsHandedOut (call ∷ past) h
+  pub call_handed : (call : ReceiverCall S) (past : List (ReceiverCall S)) (h : HandedFrame S) → IsLegalReceiver codec (call ∷ past) → IsReadIn call → IsHandedOut past h → IsHandedOut (call ∷ past) h
   call_handed call past h is_legal read is =
       let whole : has_all (fragments_of h.number (taken past)) ≡ true = ready_whole codec past h.number is_legal.1 (ap (λ (o : Option S). is_some o) is.of.source) in
       let stay : IsSame (fragments_of h.number (taken (call ∷ past))) (fragments_of h.number (taken past)) = parts_stay call past h.number is_legal read is.read whole in
@@ -163,35 +163,35 @@ module _ {S : Type 0} (codec : Coding S) where
       }
 
   -- what is handed out next is the frame of its number
-  frame_step : (past : List (Call S)) (n : ℕ) (h : HandedFrame S) (o : Option S) → ready_source codec past n ≡ o → option_map (frame_from codec past n) o ≡ Some h → IsReadyFrame codec past h
+  frame_step : (past : List (ReceiverCall S)) (n : ℕ) (h : HandedFrame S) (o : Option S) → ready_source codec past n ≡ o → option_map (frame_from codec past n) o ≡ Some h → IsReadyFrame codec past h
   frame_step past n h None there e = absurd (cc)
   frame_step past n h (Some source) there e =
       subst (λ v. IsReadyFrame codec past v) (some_same (frame_from codec past n source) h e) (record { target = refl; source = there; bytes = refl })
 
-  next_step : (past : List (Call S)) (h : HandedFrame S) (o : Option ℕ) → option_and_then (frame_at codec past) o ≡ Some h → IsReadyFrame codec past h
+  next_step : (past : List (ReceiverCall S)) (h : HandedFrame S) (o : Option ℕ) → option_and_then (frame_at codec past) o ≡ Some h → IsReadyFrame codec past h
   next_step past h None e = absurd (cc)
   next_step past h (Some n) e = frame_step past n h (ready_source codec past n) refl e
 
-  next_of : (past : List (Call S)) (h : HandedFrame S) → next_frame codec past ≡ Some h → IsReadyFrame codec past h
-  next_of past h e = next_step past h (take_answer codec past) e
+  next_of : (past : List (ReceiverCall S)) (h : HandedFrame S) → next_frame codec past ≡ Some h → IsReadyFrame codec past h
+  next_of past h e = next_step past h (ready_answer codec past) e
 
 module _ {S : Type 0} (codec : Coding S) (session : Session) where
   -- ---- every world
 
-  heard_receiver : (P : List (Call S) → Type 0) (w : WorldPast S) (o : Option Ack) → P w.receiver → P (heard_if_sent codec session w o).receiver
+  heard_receiver : (P : List (ReceiverCall S) → Type 0) (w : WorldPast S) (o : Option Ack) → P w.receiver → P (heard_if_sent codec session w o).receiver
   heard_receiver P w None h = h
   heard_receiver P w (Some ack) h = h
 
   -- what holds of the receiver's calls is kept by one more of them that was read
-  Keeps : (List (Call S) → Type 0) → Type 0
-  Keeps P = (call : Call S) (past : List (Call S)) → IsLegal codec (call ∷ past) → IsReadIn call → P past → P (call ∷ past)
+  Keeps : (List (ReceiverCall S) → Type 0) → Type 0
+  Keeps P = (call : ReceiverCall S) (past : List (ReceiverCall S)) → IsLegalReceiver codec (call ∷ past) → IsReadIn call → P past → P (call ∷ past)
 
-  down_keeps : (P : List (Call S) → Type 0) → Keeps P → (w : WorldPast S) (o : Option (List ℕ)) → IsLegal codec (delivered_if_sent codec w o).receiver → P w.receiver → P (delivered_if_sent codec w o).receiver
+  down_keeps : (P : List (ReceiverCall S) → Type 0) → Keeps P → (w : WorldPast S) (o : Option (List ℕ)) → IsLegalReceiver codec (delivered_if_sent codec w o).receiver → P w.receiver → P (delivered_if_sent codec w o).receiver
   unfolding Keeps
   down_keeps P keeps w None is_legal h = h
   down_keeps P keeps w (Some bytes) is_legal h = keeps _ w.receiver is_legal (read_in codec bytes w.moment _) h
 
-  event_keeps : (P : List (Call S) → Type 0) → Keeps P → (w : WorldPast S) (event : WorldEvent) → IsLegal codec (happens codec session w event).receiver → P w.receiver → P (happens codec session w event).receiver
+  event_keeps : (P : List (ReceiverCall S) → Type 0) → Keeps P → (w : WorldPast S) (event : WorldEvent) → IsLegalReceiver codec (happens codec session w event).receiver → P w.receiver → P (happens codec session w event).receiver
   unfolding Keeps
   event_keeps P keeps w (Starts picture) is_legal h = h
   event_keeps P keeps w TakesJob is_legal h = h
@@ -203,7 +203,7 @@ module _ {S : Type 0} (codec : Coding S) (session : Session) where
   event_keeps P keeps w (Decodes n ran) is_legal h = keeps _ w.receiver is_legal tt h
   event_keeps P keeps w (Passes moment) is_legal h = h
 
-  keeps_later : (P : List (Call S) → Type 0) → Keeps P → (later before : List WorldEvent) → P (after codec session before).receiver → P (after codec session (later ++ before)).receiver
+  keeps_later : (P : List (ReceiverCall S) → Type 0) → Keeps P → (later before : List WorldEvent) → P (after codec session before).receiver → P (after codec session (later ++ before)).receiver
   unfolding after
   keeps_later P keeps [] before h = h
   keeps_later P keeps (event ∷ later) before h = event_keeps P keeps (after codec session (later ++ before)) event (legal codec session (event ∷ later ++ before)).receiver (keeps_later P keeps later before h)

@@ -9,12 +9,12 @@ use Rattle.sal_wire.specs.declared.datagram.Ack.{Ack}
 use Rattle.sal_sender.specs.declared.answers.Next.{Next as Start}
 use Rattle.sal_sender.specs.declared.answers.Next.TheVariants.{Started, NotChosen, Full, Memory as StartMemory}
 use Rattle.sal_sender.specs.declared.answers.Chosen.TheVariants.{NoPicture, Waiting, Sent, Nothing, Memory as ChosenMemory}
-use Rattle.sal_sender.specs.Past.{Call, Past, NextPicture, TakeJob, Report, Choose, Hear, choices, pictures, last_job, opened, started}
+use Rattle.sal_sender.specs.Past.{SenderCall, Past, NextPicture, TakeJob, Report, Choose, Hear, choices, pictures, last_job, opened, started}
 use Rattle.sal_sender.specs.OneThread.{Session}
 use Rattle.sal_sender.specs.Jobs.{Job, jobs}
 use Rattle.sal_sender.specs.Choosing.{first_in}
 use Rattle.sal_sender.specs.Answers.{jobs_after, waiting_jobs}
-use Rattle.sal_sender.specs.Promises.{IsLegal}
+use Rattle.sal_sender.specs.Promises.{IsLegalSender}
 use Rattle.sal_sender.specs.JobWork.{JobWork}
 use Rattle.sal_sender.specs.Stands.{work_in, work_of, IsWorkOfItsJob}
 use Rattle.sal_sender.proofs.HandedOut.{IsRising, jobs_rising, ids_low}
@@ -98,11 +98,11 @@ module _ {S : Type 0} (codec : Coding S) where
   abbrev IsOf : Past → JobWork S → Job → Type 0
   IsOf past work job = job.id ≡ work.id → work ≡ work_of codec past job
 
-  same_job : (call : Call) (past : Past) (work : JobWork S) (job : Job) → pictures (call ∷ past) ≡ pictures past → choices (call ∷ past) ≡ choices past → IsOf past work job → IsOf (call ∷ past) work job
+  same_job : (call : SenderCall) (past : Past) (work : JobWork S) (job : Job) → pictures (call ∷ past) ≡ pictures past → choices (call ∷ past) ≡ choices past → IsOf past work job → IsOf (call ∷ past) work job
   same_job call past work job shot chosen of e = of e ∙ (ap (λ c. work_in codec (pictures past) c job) (sym chosen) ∙ ap (λ s. work_in codec s (choices (call ∷ past)) job) (sym shot))
 
   -- a call that starts and closes nothing
-  quiet_known : (call : Call) (past : Past) (work : JobWork S) → opened (call ∷ past) ≡ opened past → pictures (call ∷ past) ≡ pictures past → choices (call ∷ past) ≡ choices past → last_job past ≤ last_job (call ∷ past) → IsKnown past work → IsKnown (call ∷ past) work
+  quiet_known : (call : SenderCall) (past : Past) (work : JobWork S) → opened (call ∷ past) ≡ opened past → pictures (call ∷ past) ≡ pictures past → choices (call ∷ past) ≡ choices past → last_job past ≤ last_job (call ∷ past) → IsKnown past work → IsKnown (call ∷ past) work
   quiet_known call past work same_open shot chosen more is = record {
     low = (let low : work.id ≤ last_job past = is.low in omega arith);
     own =
@@ -111,11 +111,11 @@ module _ {S : Type 0} (codec : Coding S) where
   }
 
   -- jobs that come have higher numbers
-  new_jobs : (call : Call) (past : Past) (work : JobWork S) → work.id ≤ last_job past → Each (IsOf (call ∷ past) work) (jobs past)
+  new_jobs : (call : SenderCall) (past : Past) (work : JobWork S) → work.id ≤ last_job past → Each (IsOf (call ∷ past) work) (jobs past)
   new_jobs call past work low =
       each_map (λ j. last_job past + 1 ≤ j.id) (IsOf (call ∷ past) work) (λ job (high : last_job past + 1 ≤ job.id) (e : job.id ≡ work.id). absurd (omega arith)) (jobs past) (rising_each (last_job past + 1) (jobs past) (jobs_rising past))
 
-  pub call_known : (call : Call) (past : Past) (work : JobWork S) → IsKnown past work → IsKnown (call ∷ past) work
+  pub call_known : (call : SenderCall) (past : Past) (work : JobWork S) → IsKnown past work → IsKnown (call ∷ past) work
   call_known (NextPicture picture moment (Started n)) past work is = record { low = (let low : work.id ≤ last_job past = is.low in omega arith); own = new_jobs (NextPicture picture moment (Started n)) past work is.low }
   call_known (NextPicture picture moment (NotChosen n)) past work is = quiet_known (NextPicture picture moment (NotChosen n)) past work refl (append-nil (pictures past)) refl (omega arith) is
   call_known (NextPicture picture moment Full) past work is = quiet_known (NextPicture picture moment Full) past work refl (append-nil (pictures past)) refl (omega arith) is
@@ -147,7 +147,7 @@ module _ {S : Type 0} (codec : Coding S) where
       each_of (IsOf past work) (jobs before)
       (λ job has own. sym n.is ∙ ap (λ j. work_of codec past j) (same_id (last_job before + 1) (jobs before) n.job job (jobs_rising before) here has (ap (λ (w : JobWork S). w.id) n.is ∙ sym own)))
 
-  pub next_known : (session : Session) (past : Past) (work : JobWork S) → IsLegal codec session past → next_job codec past ≡ Some work → IsKnown past work
+  pub next_known : (session : Session) (past : Past) (work : JobWork S) → IsLegalSender codec session past → next_job codec past ≡ Some work → IsKnown past work
   next_known session past work is_legal h =
       let n : IsNext past work = next_is past work h in
       let low : n.job.id ≤ last_job past = each_has (λ j. j.id ≤ last_job past) (jobs_after (started past)) n.job (ids_low codec session past is_legal) n.among in

@@ -18,7 +18,8 @@ use Rattle.sal_chain.specs.declared.stored_state.StoredState.{StoredState}
 use Rattle.sal_sender.specs.declared.choice.Choice.{Choice}
 use Rattle.sal_sender.specs.Past.{choices, pictures, tip}
 use Rattle.sal_sender.specs.Past.{floor as floor_of_sender}
-use Rattle.sal_sender.specs.Chain.{name_in, state_at}
+use Rattle.sal_chain.specs.Held.{name_in}
+use Rattle.sal_sender.specs.Chain.{state_at}
 use Rattle.sal_sender.specs.OneThread.{Session}
 use Rattle.sal_sender.specs.Acks.{acknowledged}
 use Rattle.sal_sender.proofs.Sound.{tip_is}
@@ -26,10 +27,10 @@ use Rattle.sal_receiver.specs.declared.answers.Delivered.{Delivered}
 use Rattle.sal_receiver.specs.declared.answers.Delivered.TheVariants.{Taken, Ended, Refused, Memory}
 use Rattle.sal_receiver.specs.declared.answers.Done.{Done}
 use Rattle.sal_receiver.specs.declared.answers.Done.TheVariants.{Stranger, Returned, Older, Show}
-use Rattle.sal_receiver.specs.Past.{Call, Deliver, TakeReady, Decoding, DecodeResult, Sound, Faulty, NoMemory, taken, shown, shown_in, head, head_of, floor}
+use Rattle.sal_receiver.specs.Past.{ReceiverCall, Deliver, TakeReady, Decoding, DecodeResult, Sound, Faulty, NoMemory, taken, shown, shown_in, head, head_of, floor}
 use Rattle.sal_receiver.specs.Past.{session as session_of}
 use Rattle.sal_receiver.specs.Held.{kept_as, state_in, decoded}
-use Rattle.sal_receiver.specs.Ready.{ready_source, frame, target_name, is_out, take_answer, decoding_of, outcome_of}
+use Rattle.sal_receiver.specs.Ready.{ready_source, frame, target_name, is_out, ready_answer, decoding_of, outcome_of}
 use Rattle.sal_receiver.specs.Answers.{has_size, last_shown, outcome_answer, decoded_answer}
 use Rattle.sal_receiver.specs.Promises.{IsFit}
 use Rattle.sal_world.specs.World.{WorldPast, TakesReady, Decodes, ack_in, acks_of, happens}
@@ -65,7 +66,7 @@ floor_member (x ∷ es) e (inr h) = let more : e.floor ≤ floor_of es = floor_m
 
 module _ {S : Type 0} (codec : Coding S) (session : Session) where
   -- what came is a fragment that was sent, and was taken
-  pub sent_call : (P : Call S → Type 0) (w : WorldPast S) (came : Result Message WireFault) (moment : ℕ) (answer : Delivered) → ((e : FragmentFields) (ack : Ack) → Has (fragments codec session w.sender) e → P (Deliver (Ok (FragmentMessage e)) moment (Taken ack))) → IsOfSentFragment codec session w.sender (Deliver came moment answer) → P (Deliver came moment answer)
+  pub sent_call : (P : ReceiverCall S → Type 0) (w : WorldPast S) (came : Result Message WireFault) (moment : ℕ) (answer : Delivered) → ((e : FragmentFields) (ack : Ack) → Has (fragments codec session w.sender) e → P (Deliver (Ok (FragmentMessage e)) moment (Taken ack))) → IsOfSentFragment codec session w.sender (Deliver came moment answer) → P (Deliver came moment answer)
   sent_call P w came moment (Taken ack) f of = subst (λ c. P (Deliver c moment (Taken ack))) (sym of.2) (f of.0 ack of.1)
   sent_call P w came moment (Ended last) f of = absurd of.3
   sent_call P w came moment (Refused cause) f of = absurd of.3
@@ -81,7 +82,7 @@ module _ {S : Type 0} (codec : Coding S) (session : Session) where
   head_is w e g has = let p = piece_of w e g has in heads_same e.width session.head.width e.height session.head.height e.rate session.head.rate p.width p.height p.rate
 
   -- the receiver's head is the session's, or nothing was taken
-  pub head_known : (w : WorldPast S) (past : List (Call S)) → Given codec session w → Each (IsOfSentFragment codec session w.sender) past → (head past ≡ Some session.head) ⊎ ((head past ≡ None) × (taken past ≡ []))
+  pub head_known : (w : WorldPast S) (past : List (ReceiverCall S)) → Given codec session w → Each (IsOfSentFragment codec session w.sender) past → (head past ≡ Some session.head) ⊎ ((head past ≡ None) × (taken past ≡ []))
   head_known w [] g each = inr (refl, refl)
   head_known w (TakeReady answer ∷ past) g each = elim (head_known w past g each.1) [ inl a ↦ inl (else_none (head past) ∙ a) | inr b ↦ inr (else_none (head past) ∙ b.0, b.1) ]
   head_known w (Decoding n outcome answer ∷ past) g each = elim (head_known w past g each.1) [ inl a ↦ inl (else_none (head past) ∙ a) | inr b ↦ inr (else_none (head past) ∙ b.0, b.1) ]
@@ -93,7 +94,7 @@ module _ {S : Type 0} (codec : Coding S) (session : Session) where
       weaker (inl a) = inl a
       weaker (inr b) = inr b.0
 
-  pub session_known : (w : WorldPast S) (past : List (Call S)) → Given codec session w → Each (IsOfSentFragment codec session w.sender) past → (session_of past ≡ Some session.number) ⊎ (session_of past ≡ None)
+  pub session_known : (w : WorldPast S) (past : List (ReceiverCall S)) → Given codec session w → Each (IsOfSentFragment codec session w.sender) past → (session_of past ≡ Some session.number) ⊎ (session_of past ≡ None)
   session_known w [] g each = inr refl
   session_known w (TakeReady answer ∷ past) g each = elim (session_known w past g each.1) [ inl a ↦ inl (else_none (session_of past) ∙ a) | inr b ↦ inr (else_none (session_of past) ∙ b) ]
   session_known w (Decoding n outcome answer ∷ past) g each = elim (session_known w past g each.1) [ inl a ↦ inl (else_none (session_of past) ∙ a) | inr b ↦ inr (else_none (session_of past) ∙ b) ]
@@ -110,18 +111,18 @@ module _ {S : Type 0} (codec : Coding S) (session : Session) where
 
   -- ---- a call that takes no fragment
 
-  pub acked_later : (w : WorldPast S) (call : Call S) → Invariant codec session w → Each (WasAcked codec session (receives codec session w call).receiver) (acknowledged w.sender)
+  pub acked_later : (w : WorldPast S) (call : ReceiverCall S) → Invariant codec session w → Each (WasAcked codec session (receives codec session w call).receiver) (acknowledged w.sender)
   acked_later w call inv = each_map (WasAcked codec session w.receiver) (WasAcked codec session (receives codec session w call).receiver) (λ n was. (was.0, has_left (acks_of w.receiver) (ack_in call) was.0 was.1, was.2, was.3)) (acknowledged w.sender) inv.acks.acked
 
   -- what is said of the sender alone stays as the receiver is called
-  pub same_seen : (w : WorldPast S) (call : Call S) (s : ℕ × Picture) → IsDecoding codec w.sender s.0 s.1 → IsDecoding codec (receives codec session w call).sender s.0 s.1
+  pub same_seen : (w : WorldPast S) (call : ReceiverCall S) (s : ℕ × Picture) → IsDecoding codec w.sender s.0 s.1 → IsDecoding codec (receives codec session w call).sender s.0 s.1
   same_seen w call s is = record { choice = is.choice; chosen = is.chosen; made = is.made; is_made = is.is_made; reconstruction = is.reconstruction; decoded = is.decoded; decoding = is.decoding; same_picture = is.same_picture }
 
-  pub same_ack : (w : WorldPast S) (call : Call S) (ack : Ack) → IsAckOfSent codec session w.sender ack → IsAckOfSent codec session (receives codec session w call).sender ack
+  pub same_ack : (w : WorldPast S) (call : ReceiverCall S) (ack : Ack) → IsAckOfSent codec session w.sender ack → IsAckOfSent codec session (receives codec session w call).sender ack
   same_ack w call ack is = record { own = is.own; sent = is.sent; fits = is.fits; is = is.is; states = is.states }
 
   -- what a call that takes no fragment keeps, with what it adds to the states held and the numbers shown
-  pub quiet_kept : (w : WorldPast S) (call : Call S) → Given codec session w → NamesDifferIn codec w → Invariant codec session w
+  pub quiet_kept : (w : WorldPast S) (call : ReceiverCall S) → Given codec session w → NamesDifferIn codec w → Invariant codec session w
       → taken (call ∷ w.receiver) ≡ taken w.receiver → acks_of (call ∷ w.receiver) ≡ acks_of w.receiver → IsOfSentFragment codec session w.sender call → IsFit call
       → Each (IsStateOfNumber codec session w.sender w.receiver) (decoded codec (call ∷ w.receiver)) → ((k : StoredState S) → Has (decoded codec w.receiver) k → Has (decoded codec (call ∷ w.receiver)) k)
       → Each (λ s. IsDecoding codec w.sender s.0 s.1) (shown (call ∷ w.receiver))
@@ -158,14 +159,14 @@ module _ {S : Type 0} (codec : Coding S) (session : Session) where
 
   pub ready_kept : (w : WorldPast S) → Given codec session w → NamesDifferIn codec w → Invariant codec session w → Invariant codec session (happens codec session w TakesReady)
   ready_kept w g names inv =
-      quiet_kept w (TakeReady (take_answer codec w.receiver)) g names inv refl (append-nil (acks_of w.receiver)) tt tt inv.receiver.held (λ k has. has) inv.receiver.seen
+      quiet_kept w (TakeReady (ready_answer codec w.receiver)) g names inv refl (append-nil (acks_of w.receiver)) tt tt inv.receiver.held (λ k has. has) inv.receiver.seen
 
   -- ---- a decoding
 
   -- a decoding that isn't held, and wasn't refused
   idle_kept : (w : WorldPast S) (n : ℕ) (outcome : DecodeResult S) (answer : Done) → Given codec session w → NamesDifferIn codec w → Invariant codec session w → state_in codec (Decoding n outcome answer) ≡ None → shown_in (Decoding n outcome answer) ≡ None → IsFit (Decoding n outcome answer) → Invariant codec session (receives codec session w (Decoding n outcome answer))
   idle_kept w n outcome answer g names inv none unseen fit =
-      let call : Call S = Decoding n outcome answer in
+      let call : ReceiverCall S = Decoding n outcome answer in
       let held_same : decoded codec (call ∷ w.receiver) ≡ decoded codec w.receiver = ap (λ o. cons_option o (decoded codec w.receiver)) none in
       let shown_same : shown (call ∷ w.receiver) ≡ shown w.receiver = ap (λ o. cons_option o (shown w.receiver)) unseen in
       quiet_kept w call g names inv refl (append-nil (acks_of w.receiver)) tt fit
@@ -224,7 +225,7 @@ module _ {S : Type 0} (codec : Coding S) (session : Session) where
       → IsFit (Decoding n (Sound at.sent.made.target at.sent.made.recon) answer)
       → Invariant codec session (receives codec session w (Decoding n (Sound at.sent.made.target at.sent.made.recon) answer))
   sound_held w n answer g names inv at state seen fit =
-      let call : Call S = Decoding n (Sound at.sent.made.target at.sent.made.recon) answer in
+      let call : ReceiverCall S = Decoding n (Sound at.sent.made.target at.sent.made.recon) answer in
       let k : StoredState S = kept_as codec n at.sent.made.target in
       let t : tip w.sender ≡ length (choices w.sender) = tip_is (choices w.sender) g.chained in
       let low : n ≤ length (choices w.sender) = number_low (choices w.sender) n at.sent.choice g.chained at.sent.found in

@@ -12,7 +12,7 @@ use Rattle.sal_sender.specs.Chain.{made_at, sources_from}
 use Rattle.sal_sender.specs.OneThread.{one_thread}
 use Rattle.sal_sender.specs.Acks.{last_serial}
 use Rattle.sal_sender.specs.Choosing.{chosen}
-use Rattle.sal_sender.specs.Past.{Call as SenderCall}
+use Rattle.sal_sender.specs.Past.{SenderCall}
 use Rattle.sal_sender.specs.Past.{Report, Choose, Hear}
 use Rattle.sal_sender.specs.declared.answers.Reported.{Reported}
 use Rattle.sal_sender.specs.declared.answers.Reported.TheVariants.{Late, Kept}
@@ -21,7 +21,7 @@ use Rattle.sal_sender.specs.declared.answers.HeardAck.TheVariants.{Ignored, Hear
 use Rattle.sal_sender.specs.declared.answers.Ignore.TheVariants.{Old}
 use Rattle.sal_sender.specs.declared.choice.Size.TheVariants.{Datagrams}
 use Rattle.sal_receiver.specs.declared.answers.Done.TheVariants.{Show, Older}
-use Rattle.sal_receiver.specs.Past.{Call, Decoding}
+use Rattle.sal_receiver.specs.Past.{ReceiverCall, Decoding}
 use Rattle.sal_world.specs.World.{WorldEvent, sent, after}
 use Rattle.sal_world.specs.World.{Delivers}
 use Rattle.sal_receiver.specs.Past.{shown}
@@ -54,7 +54,7 @@ abbrev done_in : Option (Run ℕ) → List (ℕ × Bool)
 done_in None = []
 done_in (Some r) = filter_map done (reverse r.world.receiver)
   where
-    done : Call ℕ → Option (ℕ × Bool)
+    done : ReceiverCall ℕ → Option (ℕ × Bool)
     done (Decoding n outcome (Show m picture)) = Some (n, true)
     done (Decoding n outcome (Older m greater)) = Some (n, false)
     done _ = None

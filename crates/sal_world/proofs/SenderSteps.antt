@@ -22,10 +22,10 @@ use Rattle.sal_sender.specs.Choosing.{first_in}
 use Rattle.sal_sender.specs.Candidates.{queued}
 use Rattle.sal_sender.specs.Answers.{starts, next_answer, report_answer, heard_answer, waiting_jobs}
 use Rattle.sal_sender.specs.Sending.{after_report}
-use Rattle.sal_sender.specs.Promises.{Answers, Answered}
+use Rattle.sal_sender.specs.Promises.{SenderAnswers, SenderAnswered}
 use Rattle.sal_sender.specs.JobWork.{JobWork, JobReport}
 use Rattle.sal_sender.specs.Stands.{work_of, IsWorkOfItsJob}
-use Rattle.sal_sender.specs.Stands.{Stands as SenderStands}
+use Rattle.sal_sender.specs.Stands.{SenderStands}
 use Rattle.sal_world.specs.declared.event.Unsent.{Unsent}
 use Rattle.sal_world.specs.World.{Starts, TakesJob, Reports, Hears, WorldPast, acks, at_number, heard_if_sent}
 use Rattle.sal_world.specs.WorldParts.{WorldParts}
@@ -79,12 +79,12 @@ unsent n l = Err (record { number = n; last = l })
 
 module _ {S : Type 0} (codec : Coding S) (session : Session) where
   -- a picture
-  pub next_happens : (x b : WorldParts S) (m : Machine S) (w : WorldPast S) (picture : Picture) (answer : Start) → x ≡ b → IsWorld codec session b w → Answered codec x.sender.session (SenderStands codec) x.sender m (NextPicture picture x.moment answer) → m.session ≡ x.sender.session → HappenedInUnless codec session StartMemory (record x { sender = m }) w (Starts picture) answer (next_answer w.sender)
+  pub next_happens : (x b : WorldParts S) (m : Machine S) (w : WorldPast S) (picture : Picture) (answer : Start) → x ≡ b → IsWorld codec session b w → SenderAnswered codec x.sender.session (SenderStands codec) x.sender m (NextPicture picture x.moment answer) → m.session ≡ x.sender.session → HappenedInUnless codec session StartMemory (record x { sender = m }) w (Starts picture) answer (next_answer w.sender)
   next_happens x b m w picture answer view seen answered same = go (opened_world codec session x b w view seen)
     where
       go : IsWorld codec session x w → HappenedInUnless codec session StartMemory (record x { sender = m }) w (Starts picture) answer (next_answer w.sender)
       go is =
-          let both : Answers codec x.sender.session (NextPicture picture x.moment answer) w.sender × SenderStands codec m (NextPicture picture x.moment answer ∷ w.sender) = answered w.sender is.sender in
+          let both : SenderAnswers codec x.sender.session (NextPicture picture x.moment answer) w.sender × SenderStands codec m (NextPicture picture x.moment answer ∷ w.sender) = answered w.sender is.sender in
           let after : IsWorld codec session (record x { sender = m }) (record w { sender = NextPicture picture x.moment answer ∷ w.sender }) = sender_called codec session x m w (NextPicture picture x.moment answer) is both.1 same refl in
           elim both.0 [
             | inl e ↦ inr (
@@ -100,21 +100,21 @@ module _ {S : Type 0} (codec : Coding S) (session : Session) where
   next_lacks x b w answer view seen may h = may w.sender (opened_world codec session x b w view seen).sender h
 
   -- a job that is handed out
-  pub take_happens : (x b : WorldParts S) (m : Machine S) (w : WorldPast S) (job : Option (JobWork S)) → x ≡ b → IsWorld codec session b w → job ≡ first_in (queued x.sender.waiting) → Answered codec x.sender.session (SenderStands codec) x.sender m (TakeJob (option_map (λ (j : JobWork S). j.id) job)) → m.session ≡ x.sender.session → HappenedIn codec session (record x { sender = m }) w TakesJob job (next_job codec w.sender)
+  pub take_happens : (x b : WorldParts S) (m : Machine S) (w : WorldPast S) (job : Option (JobWork S)) → x ≡ b → IsWorld codec session b w → job ≡ first_in (queued x.sender.waiting) → SenderAnswered codec x.sender.session (SenderStands codec) x.sender m (TakeJob (option_map (λ (j : JobWork S). j.id) job)) → m.session ≡ x.sender.session → HappenedIn codec session (record x { sender = m }) w TakesJob job (next_job codec w.sender)
   take_happens x b m w job view seen first answered same =
       let is : IsWorld codec session x w = opened_world codec session x b w view seen in
       let id : Option ℕ = option_map (λ (j : JobWork S). j.id) job in
-      let both : Answers codec x.sender.session (TakeJob id) w.sender × SenderStands codec m (TakeJob id ∷ w.sender) = answered w.sender is.sender in
+      let both : SenderAnswers codec x.sender.session (TakeJob id) w.sender × SenderStands codec m (TakeJob id ∷ w.sender) = answered w.sender is.sender in
       let waits : queued x.sender.waiting ≡ map (work_of codec w.sender) (waiting_jobs w.sender) = is.sender.keeps.waiting_are in (
         first ∙ (ap (λ js. first_in js) waits ∙ first_mapped (work_of codec w.sender) (waiting_jobs w.sender)),
         subst (λ a. IsWorld codec session (record x { sender = m }) (record w { sender = TakeJob a ∷ w.sender })) both.0 (sender_called codec session x m w (TakeJob id) is both.1 same refl),
       )
 
   -- a report
-  pub report_happens : (x b : WorldParts S) (m : Machine S) (w : WorldPast S) (work : JobWork S) (gave : Gave) (answer : Reported) → x ≡ b → IsWorld codec session b w → IsWorkOfItsJob codec w.sender work → ((past : Past) → SenderStands codec x.sender past → IsWorkOfItsJob codec past work → Answers codec x.sender.session (Report work.id gave answer) past × SenderStands codec m (Report work.id gave answer ∷ past)) → m.session ≡ x.sender.session → HappenedIn codec session (record x { sender = m }) w (Reports work.id gave) answer (report_answer w.sender work.id)
+  pub report_happens : (x b : WorldParts S) (m : Machine S) (w : WorldPast S) (work : JobWork S) (gave : Gave) (answer : Reported) → x ≡ b → IsWorld codec session b w → IsWorkOfItsJob codec w.sender work → ((past : Past) → SenderStands codec x.sender past → IsWorkOfItsJob codec past work → SenderAnswers codec x.sender.session (Report work.id gave answer) past × SenderStands codec m (Report work.id gave answer ∷ past)) → m.session ≡ x.sender.session → HappenedIn codec session (record x { sender = m }) w (Reports work.id gave) answer (report_answer w.sender work.id)
   report_happens x b m w work gave answer view seen own answered same =
       let is : IsWorld codec session x w = opened_world codec session x b w view seen in
-      let both : Answers codec x.sender.session (Report work.id gave answer) w.sender × SenderStands codec m (Report work.id gave answer ∷ w.sender) = answered w.sender is.sender own in (
+      let both : SenderAnswers codec x.sender.session (Report work.id gave answer) w.sender × SenderStands codec m (Report work.id gave answer ∷ w.sender) = answered w.sender is.sender own in (
         both.0,
         subst (λ a. IsWorld codec session (record x { sender = m }) (record w { sender = Report work.id gave a ∷ w.sender })) both.0 (sender_called codec session x m w (Report work.id gave answer) is both.1 same refl),
       )
@@ -133,12 +133,12 @@ module _ {S : Type 0} (codec : Coding S) (session : Session) where
       absent None h = refl
       absent (Some a) h = absurd (cc)
 
-  pub ack_happens : (x b : WorldParts S) (m : Machine S) (w : WorldPast S) (which n : ℕ) (bytes : List ℕ) (answer : HeardAck) → x ≡ b → IsWorld codec session b w → at_number x.acks n ≡ Some bytes → n ≡ which → Answered codec x.sender.session (SenderStands codec) x.sender m (Hear (parsed bytes) x.moment answer) → m.session ≡ x.sender.session → HappenedIn codec session (record x { sender = m }) w (Hears which) (Ok answer) (hear_answer codec session w which)
+  pub ack_happens : (x b : WorldParts S) (m : Machine S) (w : WorldPast S) (which n : ℕ) (bytes : List ℕ) (answer : HeardAck) → x ≡ b → IsWorld codec session b w → at_number x.acks n ≡ Some bytes → n ≡ which → SenderAnswered codec x.sender.session (SenderStands codec) x.sender m (Hear (parsed bytes) x.moment answer) → m.session ≡ x.sender.session → HappenedIn codec session (record x { sender = m }) w (Hears which) (Ok answer) (hear_answer codec session w which)
   ack_happens x b m w which n bytes answer view seen there own answered same = go (opened_world codec session x b w view seen)
     where
       heard : (is : IsWorld codec session x w) (ack : Ack) → at_number (acks w) which ≡ Some ack → ack_bytes ack ≡ bytes → HappenedIn codec session (record x { sender = m }) w (Hears which) (Ok answer) (hear_answer codec session w which)
       heard is ack found text =
-          let both : Answers codec x.sender.session (Hear (parsed bytes) x.moment answer) w.sender × SenderStands codec m (Hear (parsed bytes) x.moment answer ∷ w.sender) = answered w.sender is.sender in
+          let both : SenderAnswers codec x.sender.session (Hear (parsed bytes) x.moment answer) w.sender × SenderStands codec m (Hear (parsed bytes) x.moment answer ∷ w.sender) = answered w.sender is.sender in
           let said_is : answer ≡ heard_answer codec session w.sender (parsed (ack_bytes ack)) =
           both.0 ∙ (ap (λ s. heard_answer codec s w.sender (parsed bytes)) is.session_is ∙ ap (λ bs. heard_answer codec session w.sender (parsed bs)) (sym text)) in
           let after : IsWorld codec session (record x { sender = m }) (record w { sender = Hear (parsed bytes) x.moment answer ∷ w.sender }) = sender_called codec session x m w (Hear (parsed bytes) x.moment answer) is both.1 same refl in (

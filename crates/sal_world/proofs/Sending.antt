@@ -8,11 +8,11 @@ use Rattle.sal_sender.specs.declared.answers.Next.TheVariants.{Started, NotChose
 use Rattle.sal_sender.specs.declared.answers.Chosen.{Chosen}
 use Rattle.sal_sender.specs.declared.answers.Chosen.TheVariants.{NoPicture, Waiting, Sent, Nothing, Memory}
 use Rattle.sal_sender.specs.declared.outcome.Gave.{Gave}
-use Rattle.sal_sender.specs.Past.{Call as SenderCall, NextPicture, TakeJob, Report, Choose, choices, pictures, picture_in}
+use Rattle.sal_sender.specs.Past.{SenderCall, NextPicture, TakeJob, Report, Choose, choices, pictures, picture_in}
 use Rattle.sal_sender.specs.OneThread.{Session}
 use Rattle.sal_sender.specs.Choosing.{chosen}
 use Rattle.sal_sender.specs.Answers.{next_answer, take_answer, report_answer}
-use Rattle.sal_sender.specs.Promises.{IsLegal}
+use Rattle.sal_sender.specs.Promises.{IsLegalSender}
 use Rattle.sal_sender.proofs.Thread.{thread_of_legal}
 use Rattle.sal_sender.proofs.Sound.{chained_of_legal, sound}
 use Rattle.sal_world.specs.World.{WorldPast, Starts, TakesJob, Reports, Chooses, happens}
@@ -24,7 +24,7 @@ use Rattle.sal_world.proofs.Growing.{Extends, extends_pictures, extends_choice, 
 
 module _ {S : Type 0} (codec : Coding S) (session : Session) where
   -- a call that starts a picture at most
-  pub starts : (w : WorldPast S) (more : List Picture) → IsLegal codec session w.sender → Extends codec session (pictures w.sender) (choices w.sender) (pictures w.sender ++ more) (choices w.sender)
+  pub starts : (w : WorldPast S) (more : List Picture) → IsLegalSender codec session w.sender → Extends codec session (pictures w.sender) (choices w.sender) (pictures w.sender ++ more) (choices w.sender)
   starts w more legal = extends_pictures codec session (pictures w.sender) more (choices w.sender) (thread_of_legal codec session w.sender legal).shot
 
   pub same_sizes : (w : WorldPast S) → Invariant codec session w → Each (HasSize session) (pictures w.sender ++ [])
@@ -56,7 +56,7 @@ module _ {S : Type 0} (codec : Coding S) (session : Session) where
       grown codec session w (call ∷ w.sender) (starts w [] legal.sender) (sound codec session (call ∷ w.sender) later.sender) (same_sizes w inv) (tt, inv.acks.heard) inv.acks.acked inv
 
   -- a choice, by its answer
-  chose : (w : WorldPast S) (moment : ℕ) (answer : Chosen) → IsLegal codec session (Choose moment answer ∷ w.sender) → Extends codec session (pictures w.sender) (choices w.sender) (pictures w.sender ++ []) (choices (Choose moment answer ∷ w.sender))
+  chose : (w : WorldPast S) (moment : ℕ) (answer : Chosen) → IsLegalSender codec session (Choose moment answer ∷ w.sender) → Extends codec session (pictures w.sender) (choices w.sender) (pictures w.sender ++ []) (choices (Choose moment answer ∷ w.sender))
   chose w moment NoPicture legal = starts w [] legal.1
   chose w moment (Waiting id) legal = starts w [] legal.1
   chose w moment (Nothing budget sizes) legal = starts w [] legal.1

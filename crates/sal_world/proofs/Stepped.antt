@@ -107,7 +107,7 @@ module _ {S : Type 0} (codec : Coding S) (session : Session) where
       let w : WorldPast S = after codec session events in
       let chose : Chosen = chosen codec session w.sender w.moment in
       let each : Each Rattle.sal_world.specs.Promises.IsCounted (Choose w.moment chose ∷ w.sender) =
-      all_counted codec session (Choose w.moment chose ∷ w.sender) (subst (λ v. Rattle.sal_sender.specs.Promises.IsLegal codec session v.sender) (after_more Chooses events) (legal codec session (Chooses ∷ events)).sender) in
+      all_counted codec session (Choose w.moment chose ∷ w.sender) (subst (λ v. Rattle.sal_sender.specs.Promises.IsLegalSender codec session v.sender) (after_more Chooses events) (legal codec session (Chooses ∷ events)).sender) in
       let count : choice.count ≡ length (burst_in (Choose w.moment chose)) = chose_count w choice chose each (sym did.0 ∙ e) in
       let before : length old.sent ≡ length (datagrams w.sender) = ap (λ (ts : List (List ℕ)). length ts) stands.world.sent_are in
       let now : length new.sent ≡ length (datagrams w.sender ++ burst_in (Choose w.moment chose)) = ap (λ (ts : List (List ℕ)). length ts) did.1.sent_are in

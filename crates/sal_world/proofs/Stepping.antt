@@ -8,12 +8,12 @@ use Rattle.sal_wire.specs.declared.datagram.Ack.{Ack}
 use Rattle.sal_wire.specs.Layout.{ack_bytes}
 use Rattle.sal_sender.specs.Machine.{Machine}
 use Rattle.sal_sender.specs.Past.{burst_in, datagrams}
-use Rattle.sal_sender.specs.Past.{Call as SenderCall}
+use Rattle.sal_sender.specs.Past.{SenderCall}
 use Rattle.sal_sender.specs.OneThread.{Session}
-use Rattle.sal_sender.specs.Stands.{Stands as SenderStands}
-use Rattle.sal_receiver.specs.Past.{Call}
+use Rattle.sal_sender.specs.Stands.{SenderStands}
+use Rattle.sal_receiver.specs.Past.{ReceiverCall}
 use Rattle.sal_receiver.specs.Machine.{ReceiverState}
-use Rattle.sal_receiver.specs.Machine.{Stands as ReceiverStands}
+use Rattle.sal_receiver.specs.Machine.{ReceiverStands}
 use Rattle.sal_world.specs.World.{WorldPast, acks_of, ack_in, at_number, after}
 use Rattle.sal_world.specs.WorldParts.{WorldParts}
 use Rattle.sal_world.specs.Promises.{IsSession}
@@ -54,7 +54,7 @@ module _ {S : Type 0} (codec : Coding S) (session : Session) where
   }
 
   -- the receiver was called, and what it acknowledged was added
-  pub receiver_called : (x : WorldParts S) (r : ReceiverState S) (texts : List (List ℕ)) (w : WorldPast S) (call : Call S) → IsWorld codec session x w → ReceiverStands codec r (call ∷ w.receiver) → texts ≡ x.acks ++ map ack_bytes (ack_in call) → IsWorld codec session (record x { receiver = r; acks = texts }) (record w { receiver = call ∷ w.receiver })
+  pub receiver_called : (x : WorldParts S) (r : ReceiverState S) (texts : List (List ℕ)) (w : WorldPast S) (call : ReceiverCall S) → IsWorld codec session x w → ReceiverStands codec r (call ∷ w.receiver) → texts ≡ x.acks ++ map ack_bytes (ack_in call) → IsWorld codec session (record x { receiver = r; acks = texts }) (record w { receiver = call ∷ w.receiver })
   receiver_called x r texts w call is stands more = record {
     session_is = is.session_is;
     sender = is.sender;
@@ -65,7 +65,7 @@ module _ {S : Type 0} (codec : Coding S) (session : Session) where
   }
 
   -- the receiver was called, and acknowledged nothing
-  pub receiver_quiet : (x : WorldParts S) (r : ReceiverState S) (w : WorldPast S) (call : Call S) → IsWorld codec session x w → ReceiverStands codec r (call ∷ w.receiver) → ack_in call ≡ [] → IsWorld codec session (record x { receiver = r }) (record w { receiver = call ∷ w.receiver })
+  pub receiver_quiet : (x : WorldParts S) (r : ReceiverState S) (w : WorldPast S) (call : ReceiverCall S) → IsWorld codec session x w → ReceiverStands codec r (call ∷ w.receiver) → ack_in call ≡ [] → IsWorld codec session (record x { receiver = r }) (record w { receiver = call ∷ w.receiver })
   receiver_quiet x r w call is stands none =
       receiver_called x r x.acks w call is stands (sym (append-nil x.acks) ∙ ap (λ (new : List Ack). x.acks ++ map ack_bytes new) (sym none))
 

@@ -12,11 +12,12 @@ use Rattle.sal_chain.specs.declared.stored_state.StoredState.{StoredState}
 use Rattle.sal_sender.specs.declared.choice.Choice.{Choice}
 use Rattle.sal_sender.specs.Past.{Past, choices, pictures, tip}
 use Rattle.sal_sender.specs.Past.{floor as sender_floor}
-use Rattle.sal_sender.specs.Chain.{name_in, state_at, made_at}
+use Rattle.sal_chain.specs.Held.{name_in}
+use Rattle.sal_sender.specs.Chain.{state_at, made_at}
 use Rattle.sal_sender.specs.OneThread.{Session, one_thread}
 use Rattle.sal_sender.specs.Acks.{acknowledged}
 use Rattle.sal_sender.specs.Sound.{IsSound}
-use Rattle.sal_receiver.specs.Past.{Call, Deliver, taken, shown}
+use Rattle.sal_receiver.specs.Past.{ReceiverCall, Deliver, taken, shown}
 use Rattle.sal_receiver.specs.Past.{floor as receiver_floor}
 use Rattle.sal_receiver.specs.Promises.{AreFit, IsTaken}
 use Rattle.sal_receiver.specs.Held.{decoded}
@@ -36,12 +37,12 @@ module _ {S : Type 0} (codec : Coding S) (session : Session) where
   fragments s = one_thread codec session (pictures s) (choices s)
 
   -- each datagram that came was sent, and was taken
-  abbrev pub IsOfSentFragment : Past → Call S → Type 0
+  abbrev pub IsOfSentFragment : Past → ReceiverCall S → Type 0
   IsOfSentFragment s (Deliver came moment answer) = (e : FragmentFields) × Has (fragments s) e × (came ≡ Ok (FragmentMessage e)) × IsTaken answer
   IsOfSentFragment s _ = Unit {0}
 
   -- a held state is that of its number, which stands at most 15 above the receiver's floor
-  pub record IsStateOfNumber (s : Past) (r : List (Call S)) (k : StoredState S) : Type 0 where
+  pub record IsStateOfNumber (s : Past) (r : List (ReceiverCall S)) (k : StoredState S) : Type 0 where
     pub some : 1 ≤ k.number
     pub chosen : k.number ≤ tip s
     pub near : k.number ≤ receiver_floor r + 15
@@ -49,7 +50,7 @@ module _ {S : Type 0} (codec : Coding S) (session : Session) where
     pub name : k.name.0 ≡ name_in codec k.state
 
   -- a ready frame is that of its number, from the state of its source
-  pub record IsFrameOfNumber (s : Past) (r : List (Call S)) (n : ℕ) (source : S) : Type 0 where
+  pub record IsFrameOfNumber (s : Past) (r : List (ReceiverCall S)) (n : ℕ) (source : S) : Type 0 where
     pub choice : Choice
     pub chosen : choice_at (choices s) n ≡ Some choice
     pub from_source : source ≡ state_at codec s choice.source
@@ -72,11 +73,11 @@ module _ {S : Type 0} (codec : Coding S) (session : Session) where
     pub states : Each (NamesItsState s) ack.held
 
   -- a number that an acknowledgement names is held still, or stands below the receiver's floor
-  abbrev pub IsHeldOrPassed : List (Call S) → ℕ → Type 0
+  abbrev pub IsHeldOrPassed : List (ReceiverCall S) → ℕ → Type 0
   IsHeldOrPassed r n = receiver_floor r ≤ n → (k : StoredState S) × Has (decoded codec r) k × (k.number ≡ n)
 
   -- a number was named by an acknowledgement of the receiver
-  abbrev pub WasAcked : List (Call S) → ℕ → Type 0
+  abbrev pub WasAcked : List (ReceiverCall S) → ℕ → Type 0
   WasAcked r n = (ack : Ack) × Has (acks_of r) ack × (name : Name) × Has ack.held (n, name)
 
   -- what stands of the sender: its floor and tip, its choices' floors and sources and those of the open jobs, and its pictures
@@ -86,7 +87,7 @@ module _ {S : Type 0} (codec : Coding S) (session : Session) where
     pub sizes : Each (HasSize session) (pictures s)
 
   -- what stands of a receiver behind a sender
-  pub record ReceiverInvariant (s : Past) (r : List (Call S)) : Type 0 where
+  pub record ReceiverInvariant (s : Past) (r : List (ReceiverCall S)) : Type 0 where
     pub delivered : Each (IsOfSentFragment s) r
     -- its floor is 1 or that of a sent fragment
     pub floor : (receiver_floor r ≡ 1) ⊎ ((e : FragmentFields) × Has (fragments s) e × (e.floor ≡ receiver_floor r))
@@ -100,7 +101,7 @@ module _ {S : Type 0} (codec : Coding S) (session : Session) where
 
   -- what stands of the acknowledgements between a sender and a receiver: what came back, what was said, and each number
   -- that is acknowledged
-  pub record AckInvariant (s : Past) (r : List (Call S)) : Type 0 where
+  pub record AckInvariant (s : Past) (r : List (ReceiverCall S)) : Type 0 where
     pub heard : Each IsHeardOrOldIn s
     pub acks : Each (IsAckOfSent s) (acks_of r)
     pub named : Each (λ ack. Each (λ held. IsHeldOrPassed r held.0) ack.held) (acks_of r)

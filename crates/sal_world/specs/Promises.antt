@@ -13,8 +13,9 @@ use Rattle.sal_sender.specs.declared.answers.HeardAck.TheVariants.{Heard, Ignore
 use Rattle.sal_sender.specs.declared.answers.Ignore.TheVariants.{Old}
 use Rattle.sal_sender.specs.Past.{Past, Choose, Hear, choices, pictures, tip, opened}
 use Rattle.sal_sender.specs.Past.{floor as sender_floor}
-use Rattle.sal_sender.specs.Past.{Call as SenderCall}
-use Rattle.sal_sender.specs.Chain.{name_in, state_at, made_at, chain, NamesDiffer}
+use Rattle.sal_sender.specs.Past.{SenderCall}
+use Rattle.sal_chain.specs.Held.{name_in}
+use Rattle.sal_sender.specs.Chain.{state_at, made_at, chain, NamesDiffer}
 use Rattle.sal_sender.specs.OneThread.{Session}
 use Rattle.sal_sender.specs.Acks.{acknowledged}
 use Rattle.sal_sender.specs.Choosing.{reported}
@@ -22,7 +23,7 @@ use Rattle.sal_sender.specs.Sound.{IsSound}
 use Rattle.sal_sender.specs.Answers.{report_answer}
 use Rattle.sal_y4m.specs.Head.{IsHead}
 use Rattle.sal_sender.specs.Promises.{IsWhatOneThreadSends, FitsItsBudget}
-use Rattle.sal_receiver.specs.Past.{Call, Deliver, shown, floor}
+use Rattle.sal_receiver.specs.Past.{ReceiverCall, Deliver, shown, floor}
 use Rattle.sal_receiver.specs.Held.{held_under}
 use Rattle.sal_receiver.specs.Promises.{ReadyIsServed, AreFit, IsTaken, WasShown, WasOlder}
 use Rattle.sal_receiver.specs.Ready.{ready_source, is_ready, is_out}
@@ -84,7 +85,7 @@ module _ {S : Type 0} (codec : Coding S) (session : Session) where
 -- ---- what holds where names differ besides
 
 -- a delivery is answered that the datagram was taken
-abbrev pub IsTakenIn : {S : Type 0} → Call S → Type 0
+abbrev pub IsTakenIn : {S : Type 0} → ReceiverCall S → Type 0
 IsTakenIn (Deliver came moment answer) = IsTaken answer
 IsTakenIn _ = Unit {0}
 
@@ -155,10 +156,10 @@ module _ {S : Type 0} (codec : Coding S) (session : Session) where
 
 module _ {S : Type 0} (codec : Coding S) where
   -- no frame waits to be handed out, and none is out
-  pub record NothingIsLeft (past : List (Call S)) : Type 0 where
+  pub record NothingIsLeft (past : List (ReceiverCall S)) : Type 0 where
     pub waits : (n : ℕ) → is_ready codec past n ≡ false
     pub out : (n : ℕ) → is_out past n ≡ false
 
   -- each ready frame was shown, or was answered that a number at least as great was shown before
-  abbrev pub AllIsServed : List (Call S) → Type 0
+  abbrev pub AllIsServed : List (ReceiverCall S) → Type 0
   AllIsServed past = (n : ℕ) → IsSome (ready_source codec past n) → WasShown past n ⊎ WasOlder past n

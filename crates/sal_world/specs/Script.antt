@@ -12,7 +12,7 @@ use Rattle.sal_sender.specs.OneThread.{Session}
 use Rattle.sal_sender.specs.Choosing.{is_fine, first_in}
 use Rattle.sal_sender.specs.Answers.{waiting_jobs}
 use Rattle.sal_receiver.specs.Past.{shown}
-use Rattle.sal_receiver.specs.Ready.{take_answer as ready_answer}
+use Rattle.sal_receiver.specs.Ready.{ready_answer}
 use Rattle.sal_script.specs.declared.line.ScriptLine.{ScriptLine}
 use Rattle.sal_script.specs.declared.line.ScriptLine.TheVariants.{Next as NextLine, NextLate, Down as DownLine, Up as UpLine, DownAll, UpAll, Wait, Rest}
 use Rattle.sal_world.specs.World.{WorldEvent, Starts, TakesJob, Reports, Chooses, Delivers, Hears, TakesReady, Decodes, Passes, WorldPast, start, sent, acks, happens}

@@ -6,8 +6,8 @@ use Rattle.sal_codec.specs.Coding.{Coding}
 use Rattle.sal_wire.specs.Layout.{ack_bytes}
 use Rattle.sal_sender.specs.OneThread.{Session}
 use Rattle.sal_sender.specs.JobWork.{JobWork}
-use Rattle.sal_sender.specs.Stands.{Stands as SenderStands}
-use Rattle.sal_receiver.specs.Machine.{Stands as ReceiverStands}
+use Rattle.sal_sender.specs.Stands.{SenderStands}
+use Rattle.sal_receiver.specs.Machine.{ReceiverStands}
 use Rattle.sal_receiver.specs.Handed.{HandedFrame}
 use Rattle.sal_world.specs.declared.event.Event.{Event}
 use Rattle.sal_world.specs.declared.event.Event.TheVariants.{Next, Report, Decoded}

@@ -11,9 +11,9 @@ use Rattle.sal_sender.specs.OneThread.{Session}
 use Rattle.sal_sender.specs.Choosing.{chosen}
 use Rattle.sal_sender.specs.Answers.{next_answer, take_answer, report_answer, heard_answer}
 use Rattle.sal_receiver.specs.declared.answers.Delivered.TheVariants.{Taken}
-use Rattle.sal_receiver.specs.Past.{Call, Deliver, TakeReady, Decoding, DecodeResult}
+use Rattle.sal_receiver.specs.Past.{ReceiverCall, Deliver, TakeReady, Decoding, DecodeResult}
 use Rattle.sal_receiver.specs.Ready.{ready_source, frame, decoding_of}
-use Rattle.sal_receiver.specs.Ready.{take_answer as ready_answer}
+use Rattle.sal_receiver.specs.Ready.{ready_answer}
 use Rattle.sal_receiver.specs.Answers.{deliver_answer, decoded_answer}
 
 -- what may happen next; a report or a decoding is of what was handed out, and a call that lacks memory does nothing.
@@ -32,18 +32,18 @@ pub data WorldEvent : Type 0 where
 -- what both machines were called with and answered, and the moment that they share
 pub record WorldPast (S : Type 0) : Type 0 where
   pub sender : Past
-  pub receiver : List (Call S)
+  pub receiver : List (ReceiverCall S)
   pub moment : ℕ
 
 module _ {S : Type 0} where
   abbrev pub start : WorldPast S
   start = record { sender = []; receiver = []; moment = 0 }
 
-  abbrev pub ack_in : Call S → List Ack
+  abbrev pub ack_in : ReceiverCall S → List Ack
   ack_in (Deliver parsed moment (Taken ack)) = ack ∷ []
   ack_in _ = []
 
-  abbrev pub acks_of : List (Call S) → List Ack
+  abbrev pub acks_of : List (ReceiverCall S) → List Ack
   acks_of [] = []
   acks_of (call ∷ past) = acks_of past ++ ack_in call
 

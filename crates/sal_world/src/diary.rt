@@ -1,6 +1,6 @@
 //! What is written down of a session, line by line.
 
-ghost use Rattle.std.specs.Prelude.{◌≡◌, ℕ, Bool, true, false, Err, IfErr};
+ghost use Rattle.std.specs.Prelude.{◌≡◌, ◌≢◌, ℕ, Bool, true, false, List, [], Option, None, Err, IfErr, IfSome, is_some};
 ghost use Rattle.sal_io.specs.Calls.{HasCause};
 
 use sal_base::{Bytes, Name, Picture};
@@ -103,12 +103,22 @@ pub enum Entry {
 /// Where a session writes down what happens.
 pub trait Diary {
     ghost use Rattle.sal_world.specs.declared.diary.DiaryFault.{DiaryFault};
+    ghost use Rattle.sal_world.specs.LineText.{line_text, WritesLine, KeepsLimit};
 
     /// Whether it ever gives this fault.
     ghost gives: { DiaryFault → Bool };
 
     /// How often it has failed.
     ghost faults: { Self → ℕ };
+
+    /// The name of what it is written to.
+    ghost name: { Self → List ℕ } = { λ _. [] };
+
+    /// What was written of the lines so far, where it tells.
+    ghost text: { Self → Option (List ℕ) } = { λ _. None };
+
+    /// That it knows how long its text is, which it does until a line fails.
+    ghost is_counted: { Self → Type 0 } = { λ _. ⊥ };
 
     /// How often it has failed; it stays at the greatest u64.
     fn faults(&self) -> u64
@@ -118,10 +128,16 @@ pub trait Diary {
     ///
     /// # Errors
     ///
-    /// Failed, only where the count of faults rose, and no line is given after that; TooLong and Memory.
+    /// Failed, only where the count of faults rose, and no line is given after that; a front of the line was written then.
+    /// TooLong where the text would pass 1,073,741,824 bytes, and Memory; nothing was written then.
     fn line(&mut self, line: &Line) -> Result<(), DiaryFault>
         ensures gives { IfErr result (λ fault. gives fault ≡ true) }
-        ensures cause { HasCause (Err DiaryFault.Failed) (faults self.old) (faults self.new) result };
+        ensures cause { HasCause (Err DiaryFault.Failed) (faults self.old) (faults self.new) result }
+        ensures text { WritesLine (text self.old) (text self.new) result (line_text line.now) }
+        ensures limit { is_counted self.old → IfSome (text self.old) (λ text. KeepsLimit text (line_text line.now) result) }
+        ensures counted { is_counted self.old → result ≢ Err DiaryFault.Failed → is_counted self.new }
+        ensures name { name self.new ≡ name self.old }
+        ensures tells { is_some (text self.new) ≡ is_some (text self.old) };
 }
 
 /// Writes nothing down, and gives no fault.

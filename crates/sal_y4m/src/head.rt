@@ -1,10 +1,11 @@
 //! The head of a clip.
 
-ghost use Rattle.std.specs.Prelude.{◌≡◌, IfSome};
-ghost use Rattle.sal_base.specs.Picture.{AreSides};
-ghost use Rattle.sal_y4m.specs.Grammar.{header_of, sides_of, IsNarrow};
+ghost use Rattle.std.specs.Prelude.{◌≡◌};
+ghost use Rattle.sal_y4m.specs.Grammar.{begins_header};
+ghost use Rattle.sal_y4m.specs.Parameters.{head_of};
 
-use sal_base::{MAX_HEIGHT, MAX_WIDTH, leading_number};
+use crate::fault::{Flaw, Why};
+use crate::parameters::{Settings, all};
 
 /// The sides of each picture, in samples of luma, and the rate: so many pictures in so many seconds.
 #[derive(Clone, Copy, Debug, PartialEq, Eq)]
@@ -14,33 +15,36 @@ pub struct Head {
     pub rate: (u32, u32),
 }
 
-// The two numbers as sides, where they are within the limits.
-fn sides(width: u32, height: u32) -> Option<(u16, u16)>
-    ensures value { result ≡ sides_of width height }
-    ensures within { IfSome result (λ sides. AreSides sides.0 sides.1) }
+/// The word that a header line begins with.
+pub const MAGIC: &[u8] = b"YUV4MPEG2";
+
+/// Whether a text begins with the word, after which a space or a newline stands, or nothing.
+pub fn begins_header(text: &[u8]) -> bool
+    ensures { result ≡ begins_header text.now }
 {
-    if width < 1 || width > MAX_WIDTH as u32 || height < 1 || height > MAX_HEIGHT as u32 {
-        return None;
+    match text.strip_prefix(MAGIC) {
+        Some(rest) => match rest.first() {
+            Some(byte) => *byte == b' ' || *byte == b'\n',
+            None => true,
+        },
+        None => false,
     }
-    Some((width as u16, height as u16))
 }
 
-/// The head that a header line represents, without its newline.
-pub fn header(line: &[u8]) -> Option<Head>
-    ensures value { result ≡ header_of line.now }
-    ensures narrow { IfSome result IsNarrow }
+/// The head that the parameters after the word represent, up to the newline.
+pub fn head_of(text: &[u8]) -> Result<Head, Flaw>
+    ensures { result ≡ head_of text.now }
 {
-    let rest = line.strip_prefix(b"YUV4MPEG2 W")?;
-    let (width, rest) = leading_number(rest)?;
-    let rest = rest.strip_prefix(b" H")?;
-    let (height, rest) = leading_number(rest)?;
-    if !rest.is_empty() {
-        return None;
+    let settings = all(text)?;
+    match (settings.width, settings.height) {
+        (Some(width), Some(height)) => Ok(Head {
+            width,
+            height,
+            rate: settings.rate,
+        }),
+        _ => Err(Flaw {
+            left: 0,
+            why: Why::Missing,
+        }),
     }
-    let (width, height) = sides(width, height)?;
-    Some(Head {
-        width,
-        height,
-        rate: (30, 1),
-    })
 }

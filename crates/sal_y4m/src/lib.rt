@@ -1,10 +1,13 @@
-//! Raw pictures: the narrow form that is read, and the form that is written.
+//! Raw pictures, read and written as YUV4MPEG2.
 #![tactic(auto)]
 
 mod fault;
 mod head;
+mod line;
+mod parameters;
 mod parts;
 mod reader;
+mod values;
 mod writer;
 
 pub use fault::{Why, WriteFault, Y4mFault};

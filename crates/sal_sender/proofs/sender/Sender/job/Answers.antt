@@ -1,6 +1,6 @@
 use Rattle.std.proofs.Common.{ap, sym, ◌∙◌}
 use Rattle.std.specs.Arc.{arc_value}
-use Rattle.sal_sender.specs.Chain.{name_in}
+use Rattle.sal_chain.specs.Held.{name_in}
 use Rattle.sal_sender.proofs.Starting.{own_of, may_job}
 use Rattle.sal_sender.proofs.sender.Sender.job.Goals as goal
 
