@@ -67,6 +67,11 @@ printf 'rest\n' >script
 { printf 'YUV4MPEG2 W32 H24 F30:1 Ip A0:0 C420jpeg\n'; tail -c +19 "$clip"; } >wanted.y4m
 shows "the whole example clip" "$clip" script 6 6 0 1 6 6
 
+# A header of another program: its rate is written, and the text of a line before a picture is skipped.
+{ printf 'YUV4MPEG2 W16 H16 F25:1 Ip A1:1 C420jpeg XYSCSS=420JPEG\nFRAME Ip\n'; head -c 384 /dev/zero; } >in.y4m
+{ printf 'YUV4MPEG2 W16 H16 F25:1 Ip A0:0 C420jpeg\nFRAME\n'; head -c 384 /dev/zero; } >wanted.y4m
+shows "a header of another program" in.y4m script 1 1 0 1 1 1
+
 # Wide pictures, high ones and many of them are all shown.
 grey_clip() { printf 'YUV4MPEG2 W%d H%d\n' "$1" "$2"; for ((n = 0; n < $4; n++)); do printf 'FRAME\n'; head -c "$3" /dev/zero; done; }
 for sides in "641 9 8979 3 24" "1280 8 15360 3 39" "2 720 2160 3 6" "16 16 384 130 130"; do
@@ -81,9 +86,13 @@ usage="usage: salsify loop, send, receive, check or generate"
 ends "no words" 2 "$usage"
 ends "three words" 2 "$usage" loop "$clip" script
 printf 'YUV4MPEG2 W0 H16\n' >bad.y4m
-ends "a bad header" 3 "bad input bad.y4m at byte 0: form" loop bad.y4m script out.y4m
+ends "a side of 0" 3 "bad input bad.y4m at byte 10: side" loop bad.y4m script out.y4m
+printf 'YUV4MPEG2 W16\n' >bad.y4m
+ends "no height" 3 "bad input bad.y4m at byte 13: missing" loop bad.y4m script out.y4m
+printf 'YUV4MPEG2 W16 H16 It\n' >bad.y4m
+ends "an interlaced clip" 3 "bad input bad.y4m at byte 18: interlace" loop bad.y4m script out.y4m
 head -c 6000 "$clip" >bad.y4m
-ends "a clip that is cut" 3 "bad input bad.y4m at byte 0: form" loop bad.y4m script out.y4m
+ends "a clip that is cut" 3 "bad input bad.y4m at byte 6000: cut" loop bad.y4m script out.y4m
 printf 'nex\n' >bad.script
 ends "a bad line" 4 "bad script at line 1" loop "$clip" bad.script out.y4m
 printf 'next\ndown 2\n' >bad.script

@@ -5,9 +5,10 @@ use Rattle.sal_codec.specs.Coding.{Coding}
 use Rattle.sal_io.specs.Told.{ReadsAs}
 use Rattle.sal_y4m.specs.declared.head.Head.{Head}
 use Rattle.sal_y4m.specs.declared.fault.Why.{Why}
-use Rattle.sal_y4m.specs.declared.fault.Why.TheVariants.{Form}
-use Rattle.sal_y4m.specs.Grammar.{header_at}
-use Rattle.sal_y4m.specs.Answers.{HeaderUnread}
+use Rattle.sal_y4m.specs.declared.fault.Flaw.{Flaw}
+use Rattle.sal_y4m.specs.declared.fault.Why.TheVariants.{Missing}
+use Rattle.sal_y4m.specs.Grammar.{header_at, header_flaw}
+use Rattle.sal_y4m.specs.Answers.{HeaderUnread, Counts, IsAt, IsBad}
 use Rattle.sal_script.specs.Numbered.{Numbered}
 use Rattle.sal_script.specs.Script.{script_of}
 use Rattle.sal_world.specs.declared.diary.DiaryFault.{DiaryFault}
@@ -23,13 +24,14 @@ use Rattle.sal_run.specs.Ends.{Ends as LinesEnd, RunGives as LinesGave, AtEnd as
 use Rattle.sal_app.specs.declared.stop.Stop.{Stop}
 use Rattle.sal_app.specs.declared.stop.Stop.TheVariants as stop
 use Rattle.sal_app.specs.Stops.{of_run, IsNothing, LinesGive, HeadGives}
-use Rattle.sal_app.specs.Ends.{OfRun, Told, Ends, SoFarOrNot, UpToNextOrNot, RunGives, AtEnd}
+use Rattle.sal_run.proofs.Places.{carries_on}
+use Rattle.sal_app.specs.Ends.{OfRun, Told, Ends, EndsBad, SoFarOrNot, UpToNextOrNot, RunGives, AtEnd}
 
 -- ---- where all is told
 
 loop_is : {S : Type 0} (codec : Coding S) (i s body : List ℕ) (head : Head) (lines : List Numbered) → header_at i ≡ Some (head, body) → script_of s ≡ Ok lines → loop_end codec i s ≡ (clip_run codec head body lines).1
 unfolding loop_end
-loop_is codec i s body head lines p q = ap (script_end codec i) q ∙ ap (λ (h : Option (Head × List ℕ)). input_end codec h lines) p
+loop_is codec i s body head lines p q = ap (script_end codec i) q ∙ ap (λ (h : Option (Head × List ℕ)). input_end codec i h lines) p
 
 out_is : {S : Type 0} (codec : Coding S) (i s body : List ℕ) (head : Head) (lines : List Numbered) → header_at i ≡ Some (head, body) → script_of s ≡ Ok lines → loop_out codec i s ≡ out_text head (clip_run codec head body lines).0.world
 unfolding loop_out
@@ -95,41 +97,52 @@ partly_or_not codec head lines (Some i) (Some body) (Some s) (Some o) p q (inr p
 
 -- ---- the run
 
+abbrev none_left : Flaw
+none_left = record { left = 0; why = Missing }
+
 -- a diary that gives no fault
 abbrev pub none_given : DiaryFault → Bool
 none_given fault = false
 
-well_ended : {S : Type 0} (codec : Coding S) (head : Head) (lines : List Numbered) (summary : Summary) (i o : Option (List ℕ)) → LinesGave codec head lines none_given (run.Ok summary) i o → IfSome i (λ body. LinesEnd codec head lines Done body o)
-well_ended codec head lines summary None o gave = tt
-well_ended codec head lines summary (Some i) o gave = gave.0
+well_ended : {S : Type 0} (codec : Coding S) (head : Head) (lines : List Numbered) (before : ℕ) (summary : Summary) (i o : Option (List ℕ)) → LinesGave codec head lines none_given before (run.Ok summary) i o → IfSome i (λ body. LinesEnd codec head lines Done body o)
+well_ended codec head lines before summary None o gave = tt
+well_ended codec head lines before summary (Some i) o gave = gave.0
 
-counted_of : {S : Type 0} (codec : Coding S) (head : Head) (lines : List Numbered) (summary : Summary) (i i' s o : Option (List ℕ)) → ReadsAs header_at i i' head → IfSome s (λ s. script_of s ≡ Ok lines) → LinesGave codec head lines none_given (run.Ok summary) i' o
+counted_of : {S : Type 0} (codec : Coding S) (head : Head) (lines : List Numbered) (before : ℕ) (summary : Summary) (i i' s o : Option (List ℕ)) → ReadsAs header_at i i' head → IfSome s (λ s. script_of s ≡ Ok lines) → LinesGave codec head lines none_given before (run.Ok summary) i' o
     → IfSome i (λ i. IfSome s (OfRun (λ head lines body. summary ≡ summary_of (clip_run codec head body lines).0.world) i))
-counted_of codec head lines summary None i' s o p q gave = tt
-counted_of codec head lines summary (Some i) None s o p q gave = absurd p
-counted_of codec head lines summary (Some i) (Some body) None o p q gave = tt
-counted_of codec head lines summary (Some i) (Some body) (Some s) o p q gave = (head, (lines, (body, p, q, gave.1)))
+counted_of codec head lines before summary None i' s o p q gave = tt
+counted_of codec head lines before summary (Some i) None s o p q gave = absurd p
+counted_of codec head lines before summary (Some i) (Some body) None o p q gave = tt
+counted_of codec head lines before summary (Some i) (Some body) (Some s) o p q gave = (head, (lines, (body, p, q, gave.1)))
 
-run_gives : {S : Type 0} (codec : Coding S) (end : RunEnd) (head : Head) (lines : List Numbered) (i i' left s o : Option (List ℕ)) → ReadsAs header_at i i' head → IfSome s (λ s. script_of s ≡ Ok lines)
-    → LinesGave codec head lines none_given end i' o → RunGives codec (of_run end) i left s o
-run_gives codec (run.Ok summary) head lines i i' left s o p q gave =
-    (with_lines codec Done head lines i i' s o p q (well_ended codec head lines summary i' o gave), counted_of codec head lines summary i i' s o p q gave)
-run_gives codec (run.BadInput place why) head lines i i' left s o p q gave = with_lines codec (BadInput place why) head lines i i' s o p q gave
-run_gives codec (run.BadScript line) head lines i i' left s o p q gave = with_lines codec (BadScript line) head lines i i' s o p q gave
-run_gives codec run.TooMany head lines i i' left s o p q gave = with_lines codec TooMany head lines i i' s o p q gave
-run_gives codec run.TooLong head lines i i' left s o p q (inl gave) = with_lines codec TooLong head lines i i' s o p q gave
-run_gives codec run.TooLong head lines i i' left s o p q (inr failed) = let never : false ≡ true = failed.0 in absurd cc
-run_gives codec run.ReadFault head lines i i' left s o p q gave = header_read codec left i s o (with_told (UpToNext codec) head lines i i' s o p q gave)
-run_gives codec (run.WriteFault Out) head lines i i' left s o p q gave = with_told (Cut codec) head lines i i' s o p q gave
-run_gives codec (run.WriteFault Journal) head lines i i' left s o p q gave = let never : false ≡ true = gave.0 in absurd cc
-run_gives codec (run.WriteFault Pictures) head lines i i' left s o p q gave = absurd gave
-run_gives codec (run.WriteFault Script) head lines i i' left s o p q gave = absurd gave
-run_gives codec run.Memory head lines i i' left s o p q gave = partly_or_not codec head lines i i' s o p q gave
+-- a flaw of the pictures, where it stands in the whole of IN
+bad_lines : {S : Type 0} (codec : Coding S) (head : Head) (lines : List Numbered) (before place : ℕ) (why : Why) (i i' s o : Option (List ℕ)) → Counts 0 before i i' → ReadsAs header_at i i' head → IfSome s (λ s. script_of s ≡ Ok lines)
+    → LinesGave codec head lines none_given before (run.BadInput place why) i' o → EndsBad codec place why i s o
+bad_lines codec head lines before place why None i' s o c p q gave = (none_left, (tt, tt))
+bad_lines codec head lines before place why (Some i) None s o c p q gave = absurd p
+bad_lines codec head lines before place why (Some i) (Some body) s o c p q gave =
+    (gave.0, (with_lines codec (BadInput gave.0) head lines (Some i) (Some body) s o p q gave.1.0, (carries_on 0 before (Some i) (Some body) c gave.0 place why gave.1.1).1))
+
+run_gives : {S : Type 0} (codec : Coding S) (end : RunEnd) (head : Head) (lines : List Numbered) (before : ℕ) (i i' left s o : Option (List ℕ)) → Counts 0 before i i' → ReadsAs header_at i i' head → IfSome s (λ s. script_of s ≡ Ok lines)
+    → LinesGave codec head lines none_given before end i' o → RunGives codec (of_run end) i left s o
+run_gives codec (run.Ok summary) head lines before i i' left s o c p q gave =
+    (with_lines codec Done head lines i i' s o p q (well_ended codec head lines before summary i' o gave), counted_of codec head lines before summary i i' s o p q gave)
+run_gives codec (run.BadInput place why) head lines before i i' left s o c p q gave = bad_lines codec head lines before place why i i' s o c p q gave
+run_gives codec (run.BadScript line) head lines before i i' left s o c p q gave = with_lines codec (BadScript line) head lines i i' s o p q gave
+run_gives codec run.TooMany head lines before i i' left s o c p q gave = with_lines codec TooMany head lines i i' s o p q gave
+run_gives codec run.TooLong head lines before i i' left s o c p q (inl gave) = with_lines codec TooLong head lines i i' s o p q gave
+run_gives codec run.TooLong head lines before i i' left s o c p q (inr failed) = let never : false ≡ true = failed.0 in absurd cc
+run_gives codec run.ReadFault head lines before i i' left s o c p q gave = header_read codec left i s o (with_told (UpToNext codec) head lines i i' s o p q gave)
+run_gives codec (run.WriteFault Out) head lines before i i' left s o c p q gave = with_told (Cut codec) head lines i i' s o p q gave
+run_gives codec (run.WriteFault Journal) head lines before i i' left s o c p q gave = let never : false ≡ true = gave.0 in absurd cc
+run_gives codec (run.WriteFault Pictures) head lines before i i' left s o c p q gave = absurd gave
+run_gives codec (run.WriteFault Script) head lines before i i' left s o c p q gave = absurd gave
+run_gives codec run.Memory head lines before i i' left s o c p q gave = partly_or_not codec head lines i i' s o p q gave
 
 -- the lines were run
-pub ran : {S : Type 0} (codec : Coding S) (end : RunEnd) (r : Result Summary Stop) (head : Head) (lines : List Numbered) (i i' left s s' o : Option (List ℕ)) → r ≡ of_run end
-    → HeadGives i i' head (Ok tt) → LinesGive s s' (Ok lines) → LinesGave codec head lines none_given end i' o → RunGives codec r i left s o
-ran codec end r head lines i i' left s s' o e p q gave = subst (λ x. RunGives codec x i left s o) (sym e) (run_gives codec end head lines i i' left s o p q.0 gave)
+pub ran : {S : Type 0} (codec : Coding S) (end : RunEnd) (r : Result Summary Stop) (head : Head) (lines : List Numbered) (before : ℕ) (i i' left s s' o : Option (List ℕ)) → r ≡ of_run end → Counts 0 before i i'
+    → HeadGives 0 i i' head (Ok tt) → LinesGive s s' (Ok lines) → LinesGave codec head lines none_given before end i' o → RunGives codec r i left s o
+ran codec end r head lines before i i' left s s' o e c p q gave = subst (λ x. RunGives codec x i left s o) (sym e) (run_gives codec end head lines before i i' left s o c p q.0 gave)
 
 run_at_end : (end : RunEnd) (left : Option (List ℕ)) → LinesAtEnd end left → AtEnd (of_run end) left
 run_at_end (run.Ok summary) left at_end = at_end
@@ -171,22 +184,22 @@ script_stops codec stop.WriteFault i left s s' o none q = absurd q
 script_stops codec stop.TooLong i left s s' o none q = absurd q
 script_stops codec stop.TooMany i left s s' o none q = absurd q
 
-no_header : {S : Type 0} (codec : Coding S) (i s : List ℕ) (lines : List Numbered) → header_at i ≡ None → script_of s ≡ Ok lines → (loop_end codec i s ≡ BadInput 0 Form) × (loop_out codec i s ≡ [])
+no_header : {S : Type 0} (codec : Coding S) (i s : List ℕ) (lines : List Numbered) → header_at i ≡ None → script_of s ≡ Ok lines → (loop_end codec i s ≡ BadInput (header_flaw i)) × (loop_out codec i s ≡ [])
 unfolding loop_end loop_out
 no_header codec i s lines p q =
-    (ap (script_end codec i) q ∙ ap (λ (h : Option (Head × List ℕ)). input_end codec h lines) p, ap (script_out codec i) q ∙ ap (λ (h : Option (Head × List ℕ)). input_out codec h lines) p)
+    (ap (script_end codec i) q ∙ ap (λ (h : Option (Head × List ℕ)). input_end codec i h lines) p, ap (script_out codec i) q ∙ ap (λ (h : Option (Head × List ℕ)). input_out codec h lines) p)
 
-bad_header : {S : Type 0} (codec : Coding S) (place : ℕ) (why : Why) (lines : List Numbered) (i s o : Option (List ℕ)) → IsNothing o → place ≡ 0 → why ≡ Form → IfSome i (λ i. header_at i ≡ None)
-    → IfSome s (λ s. script_of s ≡ Ok lines) → Ends codec (BadInput place why) i s o
-bad_header codec place why lines None s o none a b p q = tt
-bad_header codec place why lines (Some i) None o none a b p q = tt
-bad_header codec place why lines (Some i) (Some s) o none a b p q =
-    let is = no_header codec i s lines p q in
-    (is.0 ∙ ap (λ (n : ℕ). BadInput n Form) (sym a) ∙ ap (λ (w : Why). BadInput place w) (sym b), held_is o [] _ is.1 none)
+bad_header : {S : Type 0} (codec : Coding S) (place : ℕ) (why : Why) (lines : List Numbered) (i s o : Option (List ℕ)) → IsNothing o → IsBad header_at header_flaw 0 i place why
+    → IfSome s (λ s. script_of s ≡ Ok lines) → EndsBad codec place why i s o
+bad_header codec place why lines None s o none p q = (none_left, (tt, tt))
+bad_header codec place why lines (Some i) None o none p q = (header_flaw i, (tt, p.1))
+bad_header codec place why lines (Some i) (Some s) o none p q =
+    let is = no_header codec i s lines p.0 q in
+    (header_flaw i, ((is.0, held_is o [] _ is.1 none), p.1))
 
 -- the header wasn't read, or isn't one
-pub head_stops : {S : Type 0} (codec : Coding S) (why : Stop) (head : Head) (lines : List Numbered) (i i' s s' o : Option (List ℕ)) → IsNothing o → HeadGives i i' head (Err why) → LinesGive s s' (Ok lines) → RunGives codec (Err why) i i' s o
-head_stops codec (stop.BadInput place why) head lines i i' s s' o none p q = bad_header codec place why lines i s o none p.1 p.2 p.0 q.0
+pub head_stops : {S : Type 0} (codec : Coding S) (why : Stop) (head : Head) (lines : List Numbered) (i i' s s' o : Option (List ℕ)) → IsNothing o → HeadGives 0 i i' head (Err why) → LinesGive s s' (Ok lines) → RunGives codec (Err why) i i' s o
+head_stops codec (stop.BadInput place why) head lines i i' s s' o none p q = bad_header codec place why lines i s o none p q.0
 head_stops codec stop.InputFault head lines i i' s s' o none p q = header_unread codec i' i s o none p
 head_stops codec (stop.BadScript n) head lines i i' s s' o none p q = absurd p
 head_stops codec stop.ScriptFault head lines i i' s s' o none p q = absurd p

@@ -15,11 +15,16 @@ use Rattle.sal_app.specs.declared.stop.Stop.{Stop}
 use Rattle.sal_app.specs.declared.stop.Stop.TheVariants as stop
 use Rattle.sal_codec.specs.Plain.{plain}
 use Rattle.sal_y4m.specs.declared.head.Head.{Head}
-use Rattle.sal_y4m.specs.Grammar.{IsNarrow, header_at}
-use Rattle.sal_y4m.proofs.HeaderLemmas.{header_narrow}
+use Rattle.sal_y4m.specs.declared.fault.Why.{Why}
+use Rattle.sal_y4m.specs.Grammar.{header_at}
+use Rattle.sal_y4m.specs.Answers.{IsAt}
+use Rattle.sal_y4m.proofs.HeadLemmas.{IsRead}
+use Rattle.sal_y4m.proofs.HeaderLemmas.{header_is_read}
 use Rattle.sal_script.specs.Numbered.{Numbered}
 use Rattle.sal_run.specs.Clip.{End, Done, BadInput, BadScript, TooMany, TooLong}
-use Rattle.sal_run.specs.Loop.{loop_end}
+use Rattle.sal_world.specs.Promises.{IsSession}
+use Rattle.sal_run.specs.Loop.{session_of, loop_end}
+use Rattle.sal_run.proofs.Promised.{session_is}
 use Rattle.sal_run.specs.Ends.{KeepsPromises}
 use Rattle.sal_app.specs.Stops.{IsNothing}
 use Rattle.sal_app.specs.Ends.{RunGives, AtEnd, Ends, UpToNextOrNot}
@@ -76,7 +81,7 @@ pub answered : (input script output : List ℕ) (holds : List ℕ → Option (Li
 answered input script output holds before after faults faults' (Ok x) s f shut said gives at_end script_end p q r =
     subst (LoopAnswers input script output holds before after faults faults') (sym said) (f, shut, gives, at_end, script_end)
 answered input script output holds before after faults faults' (Err (stop.BadInput place why)) s f shut said gives at_end script_end p q r =
-    subst (LoopAnswers input script output holds before after faults faults') (sym said) (refl, (f, shut, gives))
+    subst (LoopAnswers input script output holds before after faults faults') (sym said) (refl, (f, (shut, gives)))
 answered input script output holds before after faults faults' (Err (stop.BadScript line)) s f shut said gives at_end script_end p q r =
     subst (LoopAnswers input script output holds before after faults faults') (sym said) (f, shut, gives)
 answered input script output holds before after faults faults' (Err stop.TooMany) s f shut said gives at_end script_end p q r =
@@ -207,11 +212,14 @@ news_of input script output holds f =
 shut_news : (input script output : List ℕ) (holds : List ℕ → Option (List ℕ)) (before after : List Past) (f : Files) → Shut input script output holds before after f → after ≡ before ++ news_of input script output holds f
 shut_news input script output holds before after f shut = shut ∙ three before _ _ _
 
-abbrev pub Finds : List ℕ → List ℕ → Status → Type 0
-Finds i s st = IsStatusOf (loop_end plain i s) st ⊎ (st ≡ status.Memory)
+told_is : (P : List ℕ → Type 0) (told : Option (List ℕ)) (i : List ℕ) → told ≡ Some i → IfSome told P → P i
+told_is P told i e p = subst (λ (o : Option (List ℕ)). IfSome o P) e p
 
-ended_finds : (i s : List ℕ) (input script out : Option (List ℕ)) (end : End) (st : Status) → input ≡ Some i → script ≡ Some s → Ends plain end input script out → IsStatusOf end st → Finds i s st
-ended_finds i s input script out end st p q so e = inl (subst (λ (x : End). IsStatusOf x st) (sym (told_end i s input script out end p q so)) e)
+abbrev pub Finds : List ℕ → List ℕ → Status → Type 0
+Finds i s st = IsStatusOf i (loop_end plain i s) st ⊎ (st ≡ status.Memory)
+
+ended_finds : (i s : List ℕ) (input script out : Option (List ℕ)) (end : End) (st : Status) → input ≡ Some i → script ≡ Some s → Ends plain end input script out → IsStatusOf i end st → Finds i s st
+ended_finds i s input script out end st p q so e = inl (subst (λ (x : End). IsStatusOf i x st) (sym (told_end i s input script out end p q so)) e)
 
 complete_loop : (input script output : List ℕ) (holds : List ℕ → Option (List ℕ)) (before after : List Past) (faults faults' : ℕ) (i s : List ℕ) (st : Status) → holds input ≡ Some i → holds script ≡ Some s
     → IsQuiet before after faults faults' → LoopAnswers input script output holds before after faults faults' st → Finds i s st
@@ -219,7 +227,8 @@ complete_loop input script output holds before after faults faults' i s (status.
     ended_finds i s (holds input) (holds script) a.0.held Done (status.Ok (Loop summary)) p q a.2.0 (summary, refl)
 complete_loop input script output holds before after faults faults' i s status.Usage p q quiet a = absurd a
 complete_loop input script output holds before after faults faults' i s (status.BadInput name place why) p q quiet a =
-    ended_finds i s (holds input) (holds script) a.1.0.held (BadInput place why) (status.BadInput name place why) p q a.1.2 (ap (λ (n : Named). status.BadInput n place why) a.0)
+    let bad = a.1.1.1 in
+    ended_finds i s (holds input) (holds script) a.1.0.held (BadInput bad.0) (status.BadInput name place why) p q bad.1.0 (place, (why, (ap (λ (n : Named). status.BadInput n place why) a.0, told_is (λ (x : List ℕ). IsAt 0 x bad.0 place why) (holds input) i p bad.1.1)))
 complete_loop input script output holds before after faults faults' i s (status.BadScript line) p q quiet a =
     ended_finds i s (holds input) (holds script) a.0.held (BadScript line) (status.BadScript line) p q a.2 refl
 complete_loop input script output holds before after faults faults' i s status.TooLong p q quiet a =
@@ -262,10 +271,12 @@ complete words holds before after faults faults' old new screen screen' s answer
 
 -- ---- the promises of both ends
 
-narrow_head : (i body : List ℕ) (head : Head) → header_at i ≡ Some (head, body) → IsNarrow head
-narrow_head i body head header = subst (λ (found : Option (Head × List ℕ)). IfSome found (λ (x : Head × List ℕ). IsNarrow x.0)) header (header_narrow i)
+header_session : (i body : List ℕ) (head : Head) → header_at i ≡ Some (head, body) → IsSession (session_of head)
+header_session i body head header =
+    let read = subst (λ (found : Option (Head × List ℕ)). IfSome found (λ (x : Head × List ℕ). IsRead x.0)) header (header_is_read i) in
+    session_is head read.legal read.pictures read.seconds
 
-pub promised : (words : List (List ℕ)) (holds : List ℕ → Option (List ℕ)) → ((head : Head) (lines : List Numbered) (bytes : List ℕ) → IsNarrow head → KeepsPromises plain head lines bytes) → Promises words holds
+pub promised : (words : List (List ℕ)) (holds : List ℕ → Option (List ℕ)) → ((head : Head) (lines : List Numbered) (bytes : List ℕ) → IsSession (session_of head) → KeepsPromises plain head lines bytes) → Promises words holds
 promised words holds law i s said head lines body header read =
-    let keeps = law head lines body (narrow_head i body head header) in
+    let keeps = law head lines body (header_session i body head header) in
     (keeps, leaves_nothing plain head lines body keeps)

@@ -4,7 +4,9 @@ use Rattle.sal_run.specs.declared.end.Summary.{Summary}
 use Rattle.sal_codec.specs.Coding.{Coding}
 use Rattle.sal_y4m.specs.declared.head.Head.{Head}
 use Rattle.sal_y4m.specs.Grammar.{header_at}
-use Rattle.sal_y4m.specs.Answers.{HeaderUnread}
+use Rattle.sal_y4m.specs.declared.fault.Flaw.{Flaw}
+use Rattle.sal_y4m.specs.declared.fault.Why.{Why}
+use Rattle.sal_y4m.specs.Answers.{HeaderUnread, IsAt}
 use Rattle.sal_script.specs.Numbered.{Numbered}
 use Rattle.sal_script.specs.Script.{script_of}
 use Rattle.sal_run.specs.Clip.{End, Done, BadInput, BadScript, TooMany, TooLong}
@@ -29,6 +31,10 @@ module _ {S : Type 0} (codec : Coding S) where
   abbrev pub Ends : End → Option (List ℕ) → Option (List ℕ) → Option (List ℕ) → Type 0
   Ends end input script out = IfSome input (λ i. IfSome script (λ s. (loop_end codec i s ≡ end) × IfSome out (λ o. o ≡ loop_out codec i s)))
 
+  -- the run ended at a flaw of IN, of this place and for this reason
+  abbrev pub EndsBad : ℕ → Why → Option (List ℕ) → Option (List ℕ) → Option (List ℕ) → Type 0
+  EndsBad place why input script out = (flaw : Flaw) × (Ends (BadInput flaw) input script out × IfSome input (λ i. IsAt 0 i flaw place why))
+
   -- the run ended well, and this is what it counted
   abbrev pub EndsWell : Summary → Option (List ℕ) → Option (List ℕ) → Option (List ℕ) → Type 0
   EndsWell summary input script out =
@@ -50,7 +56,7 @@ module _ {S : Type 0} (codec : Coding S) where
   -- what a run gives, of what IN had left before and after
   abbrev pub RunGives : Result Summary Stop → Option (List ℕ) → Option (List ℕ) → Option (List ℕ) → Option (List ℕ) → Type 0
   RunGives (Ok summary) i left s o = EndsWell summary i s o
-  RunGives (Err (stop.BadInput place why)) i left s o = Ends (BadInput place why) i s o
+  RunGives (Err (stop.BadInput place why)) i left s o = EndsBad place why i s o
   RunGives (Err (stop.BadScript line)) i left s o = Ends (BadScript line) i s o
   RunGives (Err stop.TooMany) i left s o = Ends TooMany i s o
   RunGives (Err stop.TooLong) i left s o = Ends TooLong i s o

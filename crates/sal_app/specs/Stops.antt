@@ -1,12 +1,11 @@
 -- What the parts of a run stop it with.
 use Rattle.std.specs.Prelude.{◌≡◌, ℕ, List, [], Option, IfSome, Result, Ok, Err}
-use Rattle.sal_io.specs.Told.{ReadsAs, Lacks}
+use Rattle.sal_io.specs.Told.{ReadsAs}
 use Rattle.sal_y4m.specs.declared.head.Head.{Head}
-use Rattle.sal_y4m.specs.declared.fault.Why.TheVariants.{Form}
 use Rattle.sal_y4m.specs.declared.fault.Y4mFault.{Y4mFault}
 use Rattle.sal_y4m.specs.declared.fault.Y4mFault.TheVariants as y4m
-use Rattle.sal_y4m.specs.Grammar.{header_at}
-use Rattle.sal_y4m.specs.Answers.{HeaderUnread}
+use Rattle.sal_y4m.specs.Grammar.{header_at, header_flaw}
+use Rattle.sal_y4m.specs.Answers.{HeaderUnread, IsBad}
 use Rattle.sal_script.specs.declared.fault.ScriptFault.{ScriptFault}
 use Rattle.sal_script.specs.declared.fault.ScriptFault.TheVariants as script
 use Rattle.sal_script.specs.Numbered.{Numbered}
@@ -54,14 +53,14 @@ LinesGive left left' (Err stop.WriteFault) = ⊥
 LinesGive left left' (Err stop.TooLong) = ⊥
 LinesGive left left' (Err stop.TooMany) = ⊥
 
--- what was left begins with this header; or with none; or its line wasn't read whole
-abbrev pub HeadGives : Option (List ℕ) → Option (List ℕ) → Head → Result (Unit {0}) Stop → Type 0
-HeadGives left left' head (Ok x) = ReadsAs header_at left left' head
-HeadGives left left' head (Err (stop.BadInput place why)) = Lacks header_at left × (place ≡ 0) × (why ≡ Form)
-HeadGives left left' head (Err stop.InputFault) = HeaderUnread left left'
-HeadGives left left' head (Err (stop.BadScript line)) = ⊥
-HeadGives left left' head (Err stop.ScriptFault) = ⊥
-HeadGives left left' head (Err stop.WriteFault) = ⊥
-HeadGives left left' head (Err stop.TooLong) = ⊥
-HeadGives left left' head (Err stop.TooMany) = ⊥
-HeadGives left left' head (Err stop.Memory) = ⊥
+-- what was left, after so many bytes, begins with this header; or with none; or its line wasn't read whole
+abbrev pub HeadGives : ℕ → Option (List ℕ) → Option (List ℕ) → Head → Result (Unit {0}) Stop → Type 0
+HeadGives before left left' head (Ok x) = ReadsAs header_at left left' head
+HeadGives before left left' head (Err (stop.BadInput place why)) = IsBad header_at header_flaw before left place why
+HeadGives before left left' head (Err stop.InputFault) = HeaderUnread left left'
+HeadGives before left left' head (Err (stop.BadScript line)) = ⊥
+HeadGives before left left' head (Err stop.ScriptFault) = ⊥
+HeadGives before left left' head (Err stop.WriteFault) = ⊥
+HeadGives before left left' head (Err stop.TooLong) = ⊥
+HeadGives before left left' head (Err stop.TooMany) = ⊥
+HeadGives before left left' head (Err stop.Memory) = ⊥

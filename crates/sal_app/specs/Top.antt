@@ -16,14 +16,16 @@ use Rattle.sal_io.specs.declared.answers.ShelfFault.{ShelfFault}
 use Rattle.sal_io.specs.declared.answers.ShelfFault.TheVariants as shelf
 use Rattle.sal_codec.specs.Plain.{plain}
 use Rattle.sal_y4m.specs.declared.head.Head.{Head}
+use Rattle.sal_y4m.specs.declared.fault.Why.{Why}
 use Rattle.sal_y4m.specs.Grammar.{header_at}
+use Rattle.sal_y4m.specs.Answers.{IsAt}
 use Rattle.sal_script.specs.Numbered.{Numbered}
 use Rattle.sal_script.specs.Script.{script_of}
 use Rattle.sal_run.specs.Clip.{End, Done, BadInput, BadScript, TooMany, TooLong}
 use Rattle.sal_run.specs.Loop.{loop_end}
 use Rattle.sal_run.specs.Ends.{KeepsPromises, LeavesNothing}
 use Rattle.sal_app.specs.Stops.{IsNothing}
-use Rattle.sal_app.specs.Ends.{Told, Ends, EndsWell, SoFarOrNot, UpToNextOrNot, CutOff}
+use Rattle.sal_app.specs.Ends.{Told, Ends, EndsBad, EndsWell, SoFarOrNot, UpToNextOrNot, CutOff}
 
 -- what is known of IN, SCRIPT and OUT as they were shut: what the sources had left, what the sink holds, and the counts
 -- of faults
@@ -72,7 +74,7 @@ module _ (input script output : List ℕ) (holds : List ℕ → Option (List ℕ
   LoopAnswers faults faults' (status.Ok (Loop summary)) =
       (f : Files) × Shut f × EndsWell plain summary (holds input) (holds script) f.held × IsNothing f.input_left × IsNothing f.script_left
   LoopAnswers faults faults' status.Usage = ⊥
-  LoopAnswers faults faults' (status.BadInput name place why) = (name ≡ Word 1) × Ended (BadInput place why)
+  LoopAnswers faults faults' (status.BadInput name place why) = (name ≡ Word 1) × ((f : Files) × (Shut f × EndsBad plain place why (holds input) (holds script) f.held))
   LoopAnswers faults faults' (status.BadScript line) = Ended (BadScript line)
   LoopAnswers faults faults' status.TooLong = Ended TooLong
   LoopAnswers faults faults' status.TooMany = Ended TooMany
@@ -115,13 +117,13 @@ Answers words holds before after faults faults' s =
     IsLoop words (λ input script output. LoopAnswers input script output holds before after faults faults' s)
     ⊎ ((IsLoop words (λ input script output. Unit {0}) → ⊥) × (s ≡ status.Usage) × (after ≡ before) × (faults' ≡ faults))
 
--- how a run ends as a status
-abbrev pub IsStatusOf : End → Status → Type 0
-IsStatusOf Done s = (summary : Summary) × (s ≡ status.Ok (Loop summary))
-IsStatusOf (BadInput place why) s = s ≡ status.BadInput (Word 1) place why
-IsStatusOf (BadScript line) s = s ≡ status.BadScript line
-IsStatusOf TooLong s = s ≡ status.TooLong
-IsStatusOf TooMany s = s ≡ status.TooMany
+-- how a run over the bytes of IN ends as a status
+abbrev pub IsStatusOf : List ℕ → End → Status → Type 0
+IsStatusOf i Done s = (summary : Summary) × (s ≡ status.Ok (Loop summary))
+IsStatusOf i (BadInput flaw) s = (place : ℕ) × ((why : Why) × ((s ≡ status.BadInput (Word 1) place why) × IsAt 0 i flaw place why))
+IsStatusOf i (BadScript line) s = s ≡ status.BadScript line
+IsStatusOf i TooLong s = s ≡ status.TooLong
+IsStatusOf i TooMany s = s ≡ status.TooMany
 
 abbrev pub faults_of : Past → ℕ
 faults_of (In name had left faults) = faults
@@ -137,7 +139,7 @@ pub record IsQuiet (before after : List Past) (faults faults' : ℕ) : Type 0 wh
 abbrev pub IsComplete : List (List ℕ) → (List ℕ → Option (List ℕ)) → List Past → List Past → ℕ → ℕ → ℕ → ℕ → Status → Type 0
 IsComplete words holds before after faults faults' screen screen' s =
     (i o : List ℕ) → IsLoop words (λ input script output. (holds input ≡ Some i) × (holds script ≡ Some o)) → IsQuiet before after faults faults' → (Rose screen screen' → ⊥)
-    → IsStatusOf (loop_end plain i o) s ⊎ (s ≡ status.Memory)
+    → IsStatusOf i (loop_end plain i o) s ⊎ (s ≡ status.Memory)
 
 -- where the words are `loop` and three names and the shelf tells what it has under the first two: the run of these lines over
 -- the pictures after this header keeps all promises of both ends, after any of its events, and leaves nothing that is ready

@@ -2,7 +2,8 @@
 
 ghost use Rattle.std.specs.Prelude.{is_some, ◌≡◌, ◌≤◌, length, false, None, Err, OnOk, IfOk};
 ghost use Rattle.sal_io.specs.Calls.{HasCause};
-ghost use Rattle.sal_y4m.specs.Grammar.{IsNarrow};
+ghost use Rattle.sal_y4m.specs.Head.{IsHead};
+ghost use Rattle.sal_y4m.specs.Answers.{Counts};
 ghost use Rattle.sal_app.specs.Stops.{of_script, of_input, of_run, IsNothing, LinesGive, HeadGives};
 ghost use Rattle.sal_app.specs.Ends.{RunGives, AtEnd};
 
@@ -70,8 +71,9 @@ fn read_lines<T: Source>(alloc: Global, script: &mut T) -> Result<Script, Stop>
 // Reads the header of the input.
 fn read_head<S: Source>(pictures: &mut Reader<S>) -> Result<(), Stop>
     requires fresh { pictures.old.kept ≡ None }
-    ensures told { HeadGives (S.left pictures.old.source) (S.left pictures.new.source) pictures.new.head result }
-    ensures narrow { OnOk result (IsNarrow pictures.new.head) }
+    ensures told { HeadGives pictures.old.place (S.left pictures.old.source) (S.left pictures.new.source) pictures.new.head result }
+    ensures legal { OnOk result (IsHead pictures.new.head) }
+    ensures count { OnOk result (Counts pictures.old.place pictures.new.place (S.left pictures.old.source) (S.left pictures.new.source)) }
     ensures cause { HasCause (Err Stop.InputFault) (S.faults pictures.old.source) (S.faults pictures.new.source) result }
     ensures fresh { OnOk result (pictures.new.kept ≡ None) }
     ensures name { S.name pictures.new.source ≡ S.name pictures.old.source }
@@ -98,6 +100,7 @@ pub fn run_loop<C: Codec, S: Source, T: Source, K: Sink>(
     script: &mut T,
     out: &mut Writer<K>,
 ) -> Result<Summary, Stop>
+    requires start { pictures.old.place ≡ 0 }
     requires fresh { pictures.old.kept ≡ None }
     requires open { out.old.failed ≡ false }
     requires nothing { IsNothing (K.held out.old.sink) }

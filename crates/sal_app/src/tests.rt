@@ -291,6 +291,27 @@ fn all_pictures_are_shown_with_ample_memory(rt: HostRuntime) -> Result<(), Fail>
     Ok(())
 }
 
+// IN isn't in the grammar at this byte, for this reason.
+fn bad(place: u64, why: Why) -> Status {
+    Status::BadInput(Named::Word(1), place, why)
+}
+
+// The header of other programs is read, with its rate, and so is the text of a line before a picture.
+#[test]
+fn header_of_other_programs(rt: HostRuntime) -> Result<(), Fail> {
+    let alloc = rt.alloc();
+    let mut input = Vec::from_slice(
+        alloc,
+        b"YUV4MPEG2 W16 H16 F25:1 Ip A1:1 C420jpeg XYSCSS=420JPEG\nFRAME Ip\n",
+    )?;
+    input.extend_from_slice(&[128; 384])?;
+    let ran = run(alloc, &input, b"rest\n", NONE)?;
+    let wanted = clip(alloc, b"YUV4MPEG2 W16 H16 F25:1 Ip A0:0 C420jpeg\n", &[128])?;
+    assert_eq!(rt; ran.status, well([1, 1, 0, 1, 1, 1]));
+    assert!(rt; ran.out.as_slice() == wanted.as_slice());
+    Ok(())
+}
+
 #[test]
 fn every_refusal(rt: HostRuntime) -> Result<(), Fail> {
     let alloc = rt.alloc();
@@ -298,14 +319,13 @@ fn every_refusal(rt: HostRuntime) -> Result<(), Fail> {
     let three = clip(alloc, READ, &[1, 2, 3])?;
     let long = clip(alloc, READ, &[128; 17])?;
     let seventeen = joined(alloc, SIXTEEN, b"next\ndown 17\n")?;
-    let rated = clip(alloc, b"YUV4MPEG2 W16 H16 F25:1\n", &[128])?;
-    let form = Status::BadInput(Named::Word(1), 0, Why::Form);
-    let formed = b"bad input a at byte 0: form\n".as_slice();
+    let interlaced = clip(alloc, b"YUV4MPEG2 W16 H16 It\n", &[128])?;
+    let lines = joined(alloc, &one, b"FRAMES\n")?;
     let first = b"bad script at line 1\n".as_slice();
     let second = b"bad script at line 2\n".as_slice();
     let third = b"bad script at line 3\n".as_slice();
     let late = b"bad script at line 18\n".as_slice();
-    let rows: [(&[u8], &[u8], Status, &[u8], Option<&[u8]>); 14] = [
+    let rows: [(&[u8], &[u8], Status, &[u8], Option<&[u8]>); 17] = [
         (&one, b"down 1\n", Status::BadScript(1), first, Some(&[])),
         (
             &one,
@@ -338,22 +358,61 @@ fn every_refusal(rt: HostRuntime) -> Result<(), Fail> {
         (&long, &seventeen, Status::BadScript(18), late, Some(&[])),
         (&one, b"next\njump\n", Status::BadScript(2), second, None),
         (&one, b"next\ndown 0\n", Status::BadScript(2), second, None),
-        (&rated, b"next\n", form, formed, None),
-        (&rated, b"jump\n", Status::BadScript(1), first, None),
-        (front(&one, 407), b"next\n", form, formed, Some(&[])),
-        (front(&one, 19), b"", form, formed, Some(&[])),
+        (
+            &interlaced,
+            b"next\n",
+            bad(18, Why::Interlace),
+            b"bad input a at byte 18: interlace\n",
+            None,
+        ),
+        (&interlaced, b"jump\n", Status::BadScript(1), first, None),
+        (
+            b"YUV4MPEG2 W0 H16\n",
+            b"",
+            bad(10, Why::Side),
+            b"bad input a at byte 10: side\n",
+            None,
+        ),
+        (
+            b"YUV4MPEG2 W16\n",
+            b"",
+            bad(13, Why::Missing),
+            b"bad input a at byte 13: missing\n",
+            None,
+        ),
+        (
+            front(&one, 407),
+            b"next\n",
+            bad(407, Why::Cut),
+            b"bad input a at byte 407: cut\n",
+            Some(&[]),
+        ),
+        (
+            front(&one, 19),
+            b"",
+            bad(19, Why::Cut),
+            b"bad input a at byte 19: cut\n",
+            Some(&[]),
+        ),
+        (
+            &lines,
+            b"rest\n",
+            bad(408, Why::Frame),
+            b"bad input a at byte 408: frame\n",
+            Some(&[128]),
+        ),
         (
             front(&three, 1187),
             b"next\nrest\n",
-            form,
-            formed,
+            bad(1187, Why::Cut),
+            b"bad input a at byte 1187: cut\n",
             Some(&[1, 2]),
         ),
         (
             front(&three, 1187),
             b"rest\ndown 9\n",
-            form,
-            formed,
+            bad(1187, Why::Cut),
+            b"bad input a at byte 1187: cut\n",
             Some(&[1, 2]),
         ),
     ];
@@ -416,9 +475,9 @@ fn each_call_fails_in_turn(rt: HostRuntime) -> Result<(), Fail> {
             assert!(rt; kind < 4 || lines.starts_with(&ran.printed));
         }
     }
-    // 18 reads of one byte, the line, three planes, and the end; one read and the end; a write for each part; three opens; a write for
-    // each part of the text.
-    assert_eq!(rt; ends, [24, 3, 14, 4, 14]);
+    // 24 reads of one byte for both lines, three planes, and the end; one read and the end; a write for each part; three opens; a write
+    // for each part of the text.
+    assert_eq!(rt; ends, [29, 3, 14, 4, 14]);
     Ok(())
 }
 

@@ -4,15 +4,15 @@ use Rattle.std.specs.Prelude.{nat_lt, if◌then◌else◌}
 use Rattle.std.proofs.lemmas.Bool.Decides.{nat_tests}
 use Rattle.std.proofs.lemmas.Bool.{le-ltb}
 use Rattle.sal_base.specs.declared.picture.Picture.{Picture}
-use Rattle.sal_io.specs.Told.{Reading}
+use Rattle.sal_io.specs.Told.{Reading, line_within}
 use Rattle.sal_y4m.specs.declared.head.Head.{Head}
-use Rattle.sal_y4m.specs.declared.fault.Why.TheVariants.{Form}
-use Rattle.sal_y4m.specs.Grammar.{picture_at}
+use Rattle.sal_y4m.specs.Grammar.{picture_at, picture_flaw}
 use Rattle.sal_run.specs.Front.{front, and_more, is_empty}
 use Rattle.sal_run.specs.Clip.{BadInput, over, Clip}
 use Rattle.sal_run.specs.Input.{clip_within, clip_in}
 
 no_picture : (head : Head) → picture_at head [] ≡ None
+unfolding line_within
 no_picture head = refl
 
 front_none : {X : Type 0} (read : Reading X) (n : ℕ) (b : List ℕ) → read b ≡ None → front read n b ≡ ([], b)
@@ -32,7 +32,7 @@ lt_suc : (m n : ℕ) → nat_lt (suc m) (suc n) ≡ nat_lt m n
 lt_suc m n = grind (arith, nat_tests)
 
 clip_read : (head : Head) (m : ℕ) (p : Picture) (found : List Picture × List ℕ) → clip_within head (suc m) (p ∷ found.0, found.1) ≡ record { pictures = p ∷ (clip_within head m found).pictures; fault = (clip_within head m found).fault }
-clip_read head m p found = ap (λ (b : Bool). let c : Clip = record { pictures = p ∷ take m found.0; fault = if b then Some (over head) else if is_empty found.1 then None else Some (BadInput 0 Form) } in c) (lt_suc m (length found.0))
+clip_read head m p found = ap (λ (b : Bool). let c : Clip = record { pictures = p ∷ take m found.0; fault = if b then Some (over head) else if is_empty found.1 then None else Some (BadInput (picture_flaw found.1)) } in c) (lt_suc m (length found.0))
 
 -- a picture that a session takes
 pub clip_some : (head : Head) (m : ℕ) (l l' : List ℕ) (p : Picture) → picture_at head l ≡ Some (p, l') → clip_in head (suc m) l ≡ record { pictures = p ∷ (clip_in head m l').pictures; fault = (clip_in head m l').fault }
@@ -45,22 +45,22 @@ clip_some head m l l' p e =
     ap (λ (f : List Picture × List ℕ). clip_within head (suc m) f) read ∙ clip_read head m p found
 
 -- no picture stands there
-pub clip_none : (head : Head) (m : ℕ) (l : List ℕ) → picture_at head l ≡ None → clip_in head m l ≡ record { pictures = []; fault = if is_empty l then None else Some (BadInput 0 Form) }
+pub clip_none : (head : Head) (m : ℕ) (l : List ℕ) → picture_at head l ≡ None → clip_in head m l ≡ record { pictures = []; fault = if is_empty l then None else Some (BadInput (picture_flaw l)) }
 clip_none head m l e = ap (λ (f : List Picture × List ℕ). clip_within head m f) (front_none (picture_at head) (m + 1) l e) ∙ none_within m
   where
-    none_within : (m : ℕ) → clip_within head m ([], l) ≡ record { pictures = []; fault = if is_empty l then None else Some (BadInput 0 Form) }
-    none_within zero = ap (λ (b : Bool). let c : Clip = record { pictures = []; fault = if b then Some (over head) else if is_empty l then None else Some (BadInput 0 Form) } in c) (le-ltb 0 0 (omega arith))
-    none_within (suc m) = ap (λ (b : Bool). let c : Clip = record { pictures = []; fault = if b then Some (over head) else if is_empty l then None else Some (BadInput 0 Form) } in c) (le-ltb (suc m) 0 (omega arith))
+    none_within : (m : ℕ) → clip_within head m ([], l) ≡ record { pictures = []; fault = if is_empty l then None else Some (BadInput (picture_flaw l)) }
+    none_within zero = ap (λ (b : Bool). let c : Clip = record { pictures = []; fault = if b then Some (over head) else if is_empty l then None else Some (BadInput (picture_flaw l)) } in c) (le-ltb 0 0 (omega arith))
+    none_within (suc m) = ap (λ (b : Bool). let c : Clip = record { pictures = []; fault = if b then Some (over head) else if is_empty l then None else Some (BadInput (picture_flaw l)) } in c) (le-ltb (suc m) 0 (omega arith))
 
 pub clip_end : (head : Head) (m : ℕ) (l : List ℕ) → l ≡ [] → clip_in head m l ≡ record { pictures = []; fault = None }
-clip_end head m l e = clip_none head m l (ap (picture_at head) e ∙ no_picture head) ∙ ap (λ (xs : List ℕ). let c : Clip = record { pictures = []; fault = if is_empty xs then None else Some (BadInput 0 Form) } in c) e
+clip_end head m l e = clip_none head m l (ap (picture_at head) e ∙ no_picture head) ∙ ap (λ (xs : List ℕ). let c : Clip = record { pictures = []; fault = if is_empty xs then None else Some (BadInput (picture_flaw xs)) } in c) e
 
 not_empty : (xs : List ℕ) → xs ≢ [] → is_empty xs ≡ false
 not_empty [] h = absurd (h refl)
 not_empty (x ∷ xs) h = grind (arith, nat_tests)
 
-pub clip_broken : (head : Head) (m : ℕ) (l : List ℕ) → l ≢ [] → picture_at head l ≡ None → clip_in head m l ≡ record { pictures = []; fault = Some (BadInput 0 Form) }
-clip_broken head m l h e = clip_none head m l e ∙ ap (λ (b : Bool). let c : Clip = record { pictures = []; fault = if b then None else Some (BadInput 0 Form) } in c) (not_empty l h)
+pub clip_broken : (head : Head) (m : ℕ) (l : List ℕ) → l ≢ [] → picture_at head l ≡ None → clip_in head m l ≡ record { pictures = []; fault = Some (BadInput (picture_flaw l)) }
+clip_broken head m l h e = clip_none head m l e ∙ ap (λ (b : Bool). let c : Clip = record { pictures = []; fault = if b then None else Some (BadInput (picture_flaw l)) } in c) (not_empty l h)
 
 -- a picture stands there that is one too many
 pub clip_over : (head : Head) (m : ℕ) (l l' : List ℕ) (p : Picture) → m ≡ 0 → picture_at head l ≡ Some (p, l') → clip_in head m l ≡ record { pictures = []; fault = Some (over head) }

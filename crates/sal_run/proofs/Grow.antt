@@ -6,7 +6,7 @@ use Rattle.sal_sender.specs.Jobs.{Job}
 use Rattle.sal_sender.specs.OneThread.{Session}
 use Rattle.sal_sender.specs.Choosing.{first_in}
 use Rattle.sal_sender.specs.Answers.{waiting_jobs}
-use Rattle.sal_receiver.specs.Ready.{take_answer as ready_answer}
+use Rattle.sal_receiver.specs.Ready.{ready_answer}
 use Rattle.sal_world.specs.World.{WorldEvent, Starts, TakesJob, Reports, Chooses, Delivers, Hears, TakesReady, Decodes, Passes, sent, acks}
 use Rattle.sal_world.specs.Script.{Run, gives, downs_in, ups_in, unnamed, with_event, run_jobs, next_picture, drained, down, up, each, down_all, up_all, wait, rest}
 use Rattle.sal_run.specs.Marks.{Marks}

@@ -3,6 +3,7 @@ pub mod Steps
 pub mod Grow
 pub mod Turns
 pub mod Walks
+pub mod Places
 pub mod Clips
 pub mod Onward
 pub mod Resting

@@ -4,9 +4,7 @@ use Rattle.std.specs.Result.{IsErrAnd}
 use Rattle.sal_base.specs.declared.picture.Picture.{Picture}
 use Rattle.sal_codec.specs.Coding.{Coding}
 use Rattle.sal_y4m.specs.declared.head.Head.{Head}
-use Rattle.sal_y4m.specs.declared.fault.Why.{Why}
-use Rattle.sal_y4m.specs.declared.fault.Why.TheVariants.{Form}
-use Rattle.sal_y4m.specs.Grammar.{picture_at}
+use Rattle.sal_y4m.specs.Grammar.{picture_at, picture_flaw}
 use Rattle.sal_script.specs.declared.line.ScriptLine.{ScriptLine}
 use Rattle.sal_script.specs.declared.line.ScriptLine.TheVariants.{Next, NextLate, Down, Up, DownAll, UpAll, Wait, Rest}
 use Rattle.sal_script.specs.Numbered.{Numbered}
@@ -17,8 +15,8 @@ use Rattle.sal_world.specs.World.{WorldEvent, sent, acks, after}
 use Rattle.sal_world.specs.World.{Starts}
 use Rattle.sal_world.specs.Script.{Run, with_event, next_picture, down, up, down_all, up_all, wait, rest, is_number, line}
 use Rattle.sal_world.specs.declared.diary.DiaryFault.{DiaryFault}
-use Rattle.sal_run.specs.declared.stop.Stop.{Stop}
-use Rattle.sal_run.specs.declared.stop.Stop.TheVariants as stop
+use Rattle.sal_run.specs.declared.stop.RunStop.{RunStop}
+use Rattle.sal_run.specs.declared.stop.RunStop.TheVariants as stop
 use Rattle.sal_run.specs.Clip.{End, BadInput, BadScript, TooMany, TooLong, over, Clip}
 use Rattle.sal_run.specs.Loop.{session_of, out_text, or_end, ended}
 use Rattle.sal_run.specs.Marks.{Marks}
@@ -190,24 +188,24 @@ module _ {S : Type 0} (codec : Coding S) (head : Head) where
   to_next_told late n more b None r c is = tt
   to_next_told late n more b (Some o) r c is = to_next late n more r c c.pictures o refl (is.shown ∙ ap (λ w. out_text head w) is.world)
 
-  module _ (gives : DiaryFault → Bool) where
-    pub line_exit : {X : Type 0} (numbered : Numbered) (m m' : ℕ) (left left' : Option (List ℕ)) (b : CountedParts S) (d u : Marks) (held : Option (List ℕ)) (r : Run S) (result : Result X Stop) (why : Stop) → IsErrAnd result (λ e. e ≡ why)
-        → ((more : List Numbered) → Halts codec head gives left held (λ ls l. onward codec head m l ls r) (numbered ∷ more) why) → LineGoes codec head gives numbered m m' left left' b d u held r result
+  module _ (gives : DiaryFault → Bool) (before0 : ℕ) where
+    pub line_exit : {X : Type 0} (numbered : Numbered) (m m' : ℕ) (left left' : Option (List ℕ)) (b : CountedParts S) (d u : Marks) (held : Option (List ℕ)) (r : Run S) (result : Result X RunStop) (why : RunStop) → IsErrAnd result (λ e. e ≡ why)
+        → ((more : List Numbered) → Halts codec head gives before0 left held (λ ls l. onward codec head m l ls r) (numbered ∷ more) why) → LineGoes codec head gives before0 numbered m m' left left' b d u held r result
     line_exit numbered m m' left left' b d u held r (Ok x) why h p = absurd h
-    line_exit numbered m m' left left' b d u held r (Err e) why h p = subst (λ s. (more : List Numbered) → Halts codec head gives left held (λ ls l. onward codec head m l ls r) (numbered ∷ more) s) (sym h) p
+    line_exit numbered m m' left left' b d u held r (Err e) why h p = subst (λ s. (more : List Numbered) → Halts codec head gives before0 left held (λ ls l. onward codec head m l ls r) (numbered ∷ more) s) (sym h) p
 
-    pub said_goes : (n : ℕ) (said same : ScriptLine) (m m' : ℕ) (left left' : Option (List ℕ)) (b : CountedParts S) (d u : Marks) (held : Option (List ℕ)) (r : Run S) (result : Result (Unit {0}) Stop) → said ≡ same
-        → LineGoes codec head gives (n, same) m m' left left' b d u held r result → LineGoes codec head gives (n, said) m m' left left' b d u held r result
-    said_goes n said same m m' left left' b d u held r result e p = subst (λ (x : ScriptLine). LineGoes codec head gives (n, x) m m' left left' b d u held r result) (sym e) p
+    pub said_goes : (n : ℕ) (said same : ScriptLine) (m m' : ℕ) (left left' : Option (List ℕ)) (b : CountedParts S) (d u : Marks) (held : Option (List ℕ)) (r : Run S) (result : Result (Unit {0}) RunStop) → said ≡ same
+        → LineGoes codec head gives before0 (n, same) m m' left left' b d u held r result → LineGoes codec head gives before0 (n, said) m m' left left' b d u held r result
+    said_goes n said same m m' left left' b d u held r result e p = subst (λ (x : ScriptLine). LineGoes codec head gives before0 (n, x) m m' left left' b d u held r result) (sym e) p
 
     -- no picture was taken
-    pub take_halts : (late : Bool) (n m : ℕ) (more : List Numbered) (left left' : Option (List ℕ)) (b : CountedParts S) (held : Option (List ℕ)) (r : Run S) (why : Stop) → TakeGives head m left left' (Err why) → IsRunning codec head b held r
-        → Halts codec head gives left held (λ ls l. onward codec head m l ls r) ((n, next_said late) ∷ more) why
+    pub take_halts : (late : Bool) (n m : ℕ) (more : List Numbered) (left left' : Option (List ℕ)) (b : CountedParts S) (held : Option (List ℕ)) (r : Run S) (why : RunStop) → TakeGives head before0 m left left' (Err why) → IsRunning codec head b held r
+        → Halts codec head gives before0 left held (λ ls l. onward codec head m l ls r) ((n, next_said late) ∷ more) why
     take_halts late n m more None left' b held r (stop.BadInput place why) t is = tt
     take_halts late n m more (Some l) left' b held r (stop.BadInput place why) t is =
-        let clip = clip_broken head m l t.2.0 t.2.1 in
-        let same : BadInput 0 Form ≡ BadInput place why = ap (λ (k : ℕ). BadInput k Form) (sym t.0) ∙ ap (λ (w : Why). BadInput place w) (sym t.1) in
-        ends_here held r (record r { left = [] }) _ (BadInput place why) (ap (λ (c : Clip). run_from c ((n, next_said late) ∷ more) r) clip ∙ (next_ends late n more r (Some (BadInput 0 Form)) ∙ ap (λ (e : End). (record r { left = [] }, e)) same)) refl is.shown
+        let flaw = picture_flaw l in
+        let ends = ap (λ (c : Clip). run_from c ((n, next_said late) ∷ more) r) (clip_broken head m l t.0 t.1.0) ∙ next_ends late n more r (Some (BadInput flaw)) in
+        (flaw, (ends_here held r (record r { left = [] }) _ (BadInput flaw) ends refl is.shown, t.1.1))
     take_halts late n m more left left' b held r (stop.BadScript line) t is = absurd t
     take_halts late n m more None left' b held r stop.TooMany t is = tt
     take_halts late n m more (Some l) None b held r stop.TooMany t is = absurd t.2.1
@@ -231,15 +229,15 @@ module _ {S : Type 0} (codec : Coding S) (head : Head) where
             record { later = f.later; events = f.events }
 
     -- no picture is left
-    pub none_halts : (late : Bool) (n m : ℕ) (more : List Numbered) (left left' : Option (List ℕ)) (b : CountedParts S) (held : Option (List ℕ)) (r : Run S) (found : Option Picture) → found ≡ None → TakeGives head m left left' (Ok found) → IsRunning codec head b held r
+    pub none_halts : (late : Bool) (n before m : ℕ) (more : List Numbered) (left left' : Option (List ℕ)) (b : CountedParts S) (held : Option (List ℕ)) (r : Run S) (found : Option Picture) → found ≡ None → TakeGives head before m left left' (Ok found) → IsRunning codec head b held r
         → IfSome left (λ l. EndsAs codec head held (BadScript n) (onward codec head m l ((n, next_said late) ∷ more) r))
-    none_halts late n m more None left' b held r found e t is = tt
-    none_halts late n m more (Some l) left' b held r (Some p) e t is = absurd cc
-    none_halts late n m more (Some l) left' b held r None e t is =
+    none_halts late n before m more None left' b held r found e t is = tt
+    none_halts late n before m more (Some l) left' b held r (Some p) e t is = absurd cc
+    none_halts late n before m more (Some l) left' b held r None e t is =
         ends_here held r (record r { left = [] }) _ (BadScript n) (ap (λ (c : Clip). run_from c ((n, next_said late) ∷ more) r) (clip_end head m l t.0) ∙ next_ends late n more r None) refl is.shown
 
     -- what stops a step that leads on to the lines after it
-    pub stopped_part : (left held : Option (List ℕ)) (events later : List WorldEvent) (l : List ℕ) (why : Stop) (final : List Numbered → List ℕ → Run S × End) (lines : List Numbered) → left ≡ Some l → (final lines l).0.events ≡ later ++ events → Stopped codec head gives held events why → Halts codec head gives left held final lines why
+    pub stopped_part : (left held : Option (List ℕ)) (events later : List WorldEvent) (l : List ℕ) (why : RunStop) (final : List Numbered → List ℕ → Run S × End) (lines : List Numbered) → left ≡ Some l → (final lines l).0.events ≡ later ++ events → Stopped codec head gives held events why → Halts codec head gives before0 left held final lines why
     stopped_part left held events later l (stop.BadInput place why) final lines e same p = absurd p
     stopped_part left held events later l (stop.BadScript line) final lines e same p = absurd p
     stopped_part left held events later l stop.TooMany final lines e same p = absurd p
@@ -249,7 +247,7 @@ module _ {S : Type 0} (codec : Coding S) (head : Head) where
     stopped_part left held events later l (stop.Diary fault) final lines e same p = rw e (stopped_later codec head gives held events (final lines l).0.events later (stop.Diary fault) same p)
     stopped_part left held events later l stop.Memory final lines e same p = rw e (stopped_later codec head gives held events (final lines l).0.events later stop.Memory same p)
 
-    pub stopped_untold : (held : Option (List ℕ)) (events : List WorldEvent) (why : Stop) (final : List Numbered → List ℕ → Run S × End) (lines : List Numbered) → Stopped codec head gives held events why → Halts codec head gives None held final lines why
+    pub stopped_untold : (held : Option (List ℕ)) (events : List WorldEvent) (why : RunStop) (final : List Numbered → List ℕ → Run S × End) (lines : List Numbered) → Stopped codec head gives held events why → Halts codec head gives before0 None held final lines why
     stopped_untold held events (stop.BadInput place why) final lines p = absurd p
     stopped_untold held events (stop.BadScript line) final lines p = absurd p
     stopped_untold held events stop.TooMany final lines p = absurd p
@@ -276,22 +274,22 @@ module _ {S : Type 0} (codec : Coding S) (head : Head) where
     moved b d u held r ps at = record { running = record { stands = at.running.stands; counts = at.running.counts; world = at.running.world; shown = at.running.shown }; downs_are = at.downs_are; ups_are = at.ups_are }
 
     -- a picture was taken
-    pub next_goes : (late : Bool) (n m m' : ℕ) (left left' : Option (List ℕ)) (b0 b : CountedParts S) (d0 u0 d u : Marks) (held : Option (List ℕ)) (r : Run S) (found : Option Picture) (p : Picture) (result : Result (Unit {0}) Stop)
-        → found ≡ Some p → TakeGives head m left left' (Ok found) → m' + 1 ≡ m → IsAt codec head b0 d0 u0 held r
+    pub next_goes : (late : Bool) (n before m m' : ℕ) (left left' : Option (List ℕ)) (b0 b : CountedParts S) (d0 u0 d u : Marks) (held : Option (List ℕ)) (r : Run S) (found : Option Picture) (p : Picture) (result : Result (Unit {0}) RunStop)
+        → found ≡ Some p → TakeGives head before m left left' (Ok found) → m' + 1 ≡ m → IsAt codec head b0 d0 u0 held r
         → ((q : Run S) → IsAt codec head b0 d0 u0 held q → Comes codec head gives b d u held (next_picture codec (session_of head) (is_late late) p q) result)
-        → LineGoes codec head gives (n, next_said late) m m' left left' b d u held r result
-    next_goes late n m m' left left' b0 b d0 u0 d u held r None p result e t count at comes = absurd cc
-    next_goes late n zero m' left left' b0 b d0 u0 d u held r (Some f) p result e t count at comes = absurd (omega (arith, count))
-    next_goes late n (suc m) m' None left' b0 b d0 u0 d u held r (Some f) p (Ok x) e t count at comes = (next_picture codec (session_of head) (is_late late) p r, (comes r at, tt))
-    next_goes late n (suc m) m' (Some l) None b0 b d0 u0 d u held r (Some f) p (Ok x) e t count at comes = absurd t.1
-    next_goes late n (suc m) m' (Some l) (Some l') b0 b d0 u0 d u held r (Some f) p (Ok x) e t count at comes =
+        → LineGoes codec head gives before0 (n, next_said late) m m' left left' b d u held r result
+    next_goes late n before m m' left left' b0 b d0 u0 d u held r None p result e t count at comes = absurd cc
+    next_goes late n before zero m' left left' b0 b d0 u0 d u held r (Some f) p result e t count at comes = absurd (omega (arith, count))
+    next_goes late n before (suc m) m' None left' b0 b d0 u0 d u held r (Some f) p (Ok x) e t count at comes = (next_picture codec (session_of head) (is_late late) p r, (comes r at, tt))
+    next_goes late n before (suc m) m' (Some l) None b0 b d0 u0 d u held r (Some f) p (Ok x) e t count at comes = absurd t.1
+    next_goes late n before (suc m) m' (Some l) (Some l') b0 b d0 u0 d u held r (Some f) p (Ok x) e t count at comes =
         let ps : List Picture = (clip_in head m l').pictures in
         let own : picture_at head l ≡ Some (p, l') = t.1 ∙ ap (λ (y : Picture). let o : Option (Picture × List ℕ) = Some (y, l') in o) (some_is f p e) in
         (next_picture codec (session_of head) (is_late late) p (record r { left = ps }), (comes (record r { left = ps }) (moved b0 d0 u0 held r ps at), λ more. next_onward late n m m' more l l' r p own (omega (arith, count))))
-    next_goes late n (suc m) m' None left' b0 b d0 u0 d u held r (Some f) p (Err why) e t count at comes =
+    next_goes late n before (suc m) m' None left' b0 b d0 u0 d u held r (Some f) p (Err why) e t count at comes =
         λ more. stopped_untold held (next_picture codec (session_of head) (is_late late) p r).events why (λ ls l. onward codec head (suc m) l ls r) ((n, next_said late) ∷ more) (comes r at)
-    next_goes late n (suc m) m' (Some l) None b0 b d0 u0 d u held r (Some f) p (Err why) e t count at comes = absurd t.1
-    next_goes late n (suc m) m' (Some l) (Some l') b0 b d0 u0 d u held r (Some f) p (Err why) e t count at comes =
+    next_goes late n before (suc m) m' (Some l) None b0 b d0 u0 d u held r (Some f) p (Err why) e t count at comes = absurd t.1
+    next_goes late n before (suc m) m' (Some l) (Some l') b0 b d0 u0 d u held r (Some f) p (Err why) e t count at comes =
         let ps : List Picture = (clip_in head m l').pictures in
         let own : picture_at head l ≡ Some (p, l') = t.1 ∙ ap (λ (y : Picture). let o : Option (Picture × List ℕ) = Some (y, l') in o) (some_is f p e) in
         let s : Run S = next_picture codec (session_of head) (is_late late) p (record r { left = ps }) in
@@ -302,9 +300,9 @@ module _ {S : Type 0} (codec : Coding S) (head : Head) where
 
     -- ---- a line that reads nothing
 
-    pub plain_goes : (numbered : Numbered) (f : Run S → Run S) (m : ℕ) (left : Option (List ℕ)) (b0 b : CountedParts S) (d0 u0 d u : Marks) (held held' : Option (List ℕ)) (r : Run S) (result : Result (Unit {0}) Stop)
+    pub plain_goes : (numbered : Numbered) (f : Run S → Run S) (m : ℕ) (left : Option (List ℕ)) (b0 b : CountedParts S) (d0 u0 d u : Marks) (held held' : Option (List ℕ)) (r : Run S) (result : Result (Unit {0}) RunStop)
         → ((q : Run S) → Grows q (f q)) → ((more : List Numbered) (fault : Option End) (q : Run S) → q.world ≡ r.world → end_of_lines fault (numbered ∷ more) q ≡ end_of_lines fault more (f q)) → IsAt codec head b0 d0 u0 held r
-        → ((q : Run S) → IsAt codec head b0 d0 u0 held q → Comes codec head gives b d u held' (f q) result) → LineGoes codec head gives numbered m m left left b d u held' r result
+        → ((q : Run S) → IsAt codec head b0 d0 u0 held q → Comes codec head gives b d u held' (f q) result) → LineGoes codec head gives before0 numbered m m left left b d u held' r result
     plain_goes numbered f m None b0 b d0 u0 d u held held' r (Ok x) grown unfolds at comes = (f r, (comes r at, tt))
     plain_goes numbered f m (Some l) b0 b d0 u0 d u held held' r (Ok x) grown unfolds at comes =
         let c : Clip = clip_in head m l in
@@ -344,5 +342,5 @@ module _ {S : Type 0} (codec : Coding S) (head : Head) where
       let q : Run S = record r { left = (clip_in head m l).pictures } in
       ends_here held r q _ (BadScript n) (up_unrun n k more q (clip_in head m l).fault e) refl is.shown
 
-  pub comes_at : (gives : DiaryFault → Bool) (b : CountedParts S) (d u : Marks) (held : Option (List ℕ)) (f : ℕ → Run S → Run S) (k' k : ℕ) (q : Run S) (result : Result (Unit {0}) Stop) → k' ≡ k → Comes codec head gives b d u held (f k' q) result → Comes codec head gives b d u held (f k q) result
+  pub comes_at : (gives : DiaryFault → Bool) (b : CountedParts S) (d u : Marks) (held : Option (List ℕ)) (f : ℕ → Run S → Run S) (k' k : ℕ) (q : Run S) (result : Result (Unit {0}) RunStop) → k' ≡ k → Comes codec head gives b d u held (f k' q) result → Comes codec head gives b d u held (f k q) result
   comes_at gives b d u held f k' k q result e p = subst (λ (x : ℕ). Comes codec head gives b d u held (f x q) result) e p

@@ -3,7 +3,7 @@ use Rattle.std.proofs.Common.{ℕ, ◌<◌, ◌≤◌, ◌^◌, List, [], ◌∷
 use Rattle.sal_base.specs.Lists.{Each}
 use Rattle.sal_codec.specs.Coding.{Coding, IsLawful}
 use Rattle.sal_y4m.specs.declared.head.Head.{Head}
-use Rattle.sal_y4m.specs.Grammar.{IsNarrow}
+use Rattle.sal_y4m.specs.Head.{IsHead}
 use Rattle.sal_script.specs.declared.line.ScriptLine.{ScriptLine}
 use Rattle.sal_script.specs.declared.line.ScriptLine.TheVariants.{Next, NextLate, Down, Up, DownAll, UpAll, Wait, Rest}
 use Rattle.sal_script.specs.Numbered.{Numbered}
@@ -47,24 +47,18 @@ module _ {S : Type 0} (codec : Coding S) (session : Session) where
   ended_run fault [] r is = is
   ended_run fault (numbered ∷ more) r is = in_line_ended fault numbered (ended codec session fault more) (λ s of. ended_run fault more s of) r is (line codec session numbered.1 r) (line_run codec session numbered.1 r is)
 
--- the session of a narrow head
-pub narrow_session : (head : Head) → IsNarrow head → IsSession (session_of head)
-narrow_session head narrow =
-    record {
-      number = omega arith;
-      head = record { sides = narrow.sides; pictures = subst (λ n. 1 ≤ n) (sym narrow.pictures) (omega arith); seconds = subst (λ n. 1 ≤ n) (sym narrow.seconds) (omega arith) };
-      pictures = subst (λ n. n < 2 ^ 32) (sym narrow.pictures) (omega arith);
-      seconds = subst (λ n. n < 2 ^ 32) (sym narrow.seconds) (omega arith);
-    }
+-- the session of a head
+pub session_is : (head : Head) → IsHead head → head.rate.0 < 2 ^ 32 → head.rate.1 < 2 ^ 32 → IsSession (session_of head)
+session_is head legal pictures seconds = record { number = omega arith; head = legal; pictures = pictures; seconds = seconds }
 
-pub kept_promises : {S : Type 0} (codec : Coding S) → IsLawful codec → (head : Head) (lines : List Numbered) (bytes : List ℕ) → IsNarrow head → KeepsPromises codec head lines bytes
-kept_promises {S = S} codec law head lines bytes narrow =
+pub kept_promises : {S : Type 0} (codec : Coding S) → IsLawful codec → (head : Head) (lines : List Numbered) (bytes : List ℕ) → IsSession (session_of head) → KeepsPromises codec head lines bytes
+kept_promises {S = S} codec law head lines bytes is_session =
     let session : Session = session_of head in
     let clip : Clip = clip_at head bytes in
-    let is : IsRun codec session (clip_run codec head bytes lines).0 = ended_run codec session clip.fault lines (begun clip.pictures) (begun_run codec session clip.pictures (clip_sizes head narrow.sides bytes)) in
+    let is : IsRun codec session (clip_run codec head bytes lines).0 = ended_run codec session clip.fault lines (begun clip.pictures) (begun_run codec session clip.pictures (clip_sizes head is_session.head.sides bytes)) in
     record {
       world = is.world;
-      holds = λ later before e. all_interleavings codec session law (narrow_session head narrow) before (later_each (IsOfSize session) later before (subst (Each (IsOfSize session)) e is.sizes));
+      holds = λ later before e. all_interleavings codec session law is_session before (later_each (IsOfSize session) later before (subst (Each (IsOfSize session)) e is.sizes));
     }
 
 -- what holds of all bytes holds where they are told

@@ -5,9 +5,7 @@ use Rattle.sal_base.specs.declared.picture.Picture.{Picture}
 use Rattle.sal_codec.specs.Coding.{Coding}
 use Rattle.sal_io.specs.Calls.{HasCause}
 use Rattle.sal_y4m.specs.declared.head.Head.{Head}
-use Rattle.sal_y4m.specs.declared.fault.Why.{Why}
-use Rattle.sal_y4m.specs.declared.fault.Why.TheVariants.{Form}
-use Rattle.sal_y4m.specs.Grammar.{picture_at}
+use Rattle.sal_y4m.specs.Grammar.{picture_at, picture_flaw}
 use Rattle.sal_script.specs.declared.line.ScriptLine.TheVariants.{Rest}
 use Rattle.sal_script.specs.Numbered.{Numbered}
 use Rattle.sal_run.specs.CountedParts.{CountedParts}
@@ -15,13 +13,14 @@ use Rattle.sal_world.specs.World.{WorldEvent, after}
 use Rattle.sal_world.specs.World.{Starts}
 use Rattle.sal_world.specs.Script.{Run, with_event, next_picture, rest}
 use Rattle.sal_world.specs.declared.diary.DiaryFault.{DiaryFault}
-use Rattle.sal_run.specs.declared.stop.Stop.{Stop}
-use Rattle.sal_run.specs.declared.stop.Stop.TheVariants as stop
+use Rattle.sal_run.specs.declared.stop.RunStop.{RunStop}
+use Rattle.sal_run.specs.declared.stop.RunStop.TheVariants as stop
 use Rattle.sal_run.specs.Clip.{End, BadInput, TooMany, TooLong, over, Clip}
 use Rattle.sal_run.specs.Loop.{session_of, out_text}
 use Rattle.sal_run.specs.Marks.{Marks}
 use Rattle.sal_run.specs.Turns.{is_late, exchange, one_turn}
 use Rattle.sal_run.specs.Running.{IsRunning, Stopped, IsAt}
+use Rattle.sal_run.specs.Place.{Carries}
 use Rattle.sal_run.specs.Input.{clip_in, TakeGives, Told2, onward, EndsAs, ToNextOf, Halts}
 use Rattle.sal_run.proofs.Grow.{Grows, grows_none, grows_then, grows_event, chosen_kept}
 use Rattle.sal_run.proofs.Steps.{stopped_later}
@@ -64,14 +63,14 @@ module _ {S : Type 0} (codec : Coding S) (head : Head) where
     told = told_first m left r;
   }
 
-  told_next : (m0 : ℕ) (left0 : Option (List ℕ)) (r : Run S) (m m' : ℕ) (left left' : Option (List ℕ)) (now : Run S) (found : Option Picture) (p : Picture) → is_some left ≡ is_some left0 → found ≡ Some p → TakeGives head m left left' (Ok found) → m' + 1 ≡ m
+  told_next : (before : ℕ) (m0 : ℕ) (left0 : Option (List ℕ)) (r : Run S) (m m' : ℕ) (left left' : Option (List ℕ)) (now : Run S) (found : Option Picture) (p : Picture) → is_some left ≡ is_some left0 → found ≡ Some p → TakeGives head before m left left' (Ok found) → m' + 1 ≡ m
       → Told2 left0 left (λ l0 l. IsRest m0 l0 r m l now) → Told2 left0 left' (λ l0 l. IsRest m0 l0 r m' l (one_turn codec (session_of head) time_of p now))
-  told_next m0 None r m m' left left' now found p tells e t count told = tt
-  told_next m0 (Some l0) r m m' left None now found p tells e t count told = tt
-  told_next m0 (Some l0) r m m' None (Some l') now found p tells e t count told = absurd (not_told tells)
-  told_next m0 (Some l0) r m m' (Some l) (Some l') now None p tells e t count told = absurd cc
-  told_next m0 (Some l0) r zero m' (Some l) (Some l') now (Some f) p tells e t count told = absurd (omega (arith, count))
-  told_next m0 (Some l0) r (suc m) m' (Some l) (Some l') now (Some f) p tells e t count told =
+  told_next before m0 None r m m' left left' now found p tells e t count told = tt
+  told_next before m0 (Some l0) r m m' left None now found p tells e t count told = tt
+  told_next before m0 (Some l0) r m m' None (Some l') now found p tells e t count told = absurd (not_told tells)
+  told_next before m0 (Some l0) r m m' (Some l) (Some l') now None p tells e t count told = absurd cc
+  told_next before m0 (Some l0) r zero m' (Some l) (Some l') now (Some f) p tells e t count told = absurd (omega (arith, count))
+  told_next before m0 (Some l0) r (suc m) m' (Some l) (Some l') now (Some f) p tells e t count told =
       let own : picture_at head l ≡ Some (p, l') = t.1 ∙ ap (λ (y : Picture). let o : Option (Picture × List ℕ) = Some (y, l') in o) (some_is f p e) in
       let clip : clip_in head (suc m) l ≡ record { pictures = p ∷ (clip_in head m l').pictures; fault = (clip_in head m l').fault } = clip_some head m l l' p own in
       let same : m ≡ m' = omega (arith, count) in
@@ -81,12 +80,12 @@ module _ {S : Type 0} (codec : Coding S) (head : Head) where
         fault = sym (ap (λ (c : Clip). c.fault) clip) ∙ told.fault;
       })
 
-  pub rest_next : (m0 : ℕ) (left0 : Option (List ℕ)) (r : Run S) (m m' : ℕ) (left left' : Option (List ℕ)) (b0 b : CountedParts S) (d0 u0 d u : Marks) (held0 held : Option (List ℕ)) (found : Option Picture) (p : Picture) (time : ℕ) (now : RestLeft m0 left0 r m left b0 d0 u0 held0) → is_some left ≡ is_some left0
-      → found ≡ Some p → TakeGives head m left left' (Ok found) → m' + 1 ≡ m → time ≡ time_of → IsAt codec head b d u held (one_turn codec (session_of head) time p now.now) → RestLeft m0 left0 r m' left' b d u held
-  rest_next m0 left0 r m m' left left' b0 b d0 u0 d u held0 held found p time now tells e t count same at = record {
+  pub rest_next : (before : ℕ) (m0 : ℕ) (left0 : Option (List ℕ)) (r : Run S) (m m' : ℕ) (left left' : Option (List ℕ)) (b0 b : CountedParts S) (d0 u0 d u : Marks) (held0 held : Option (List ℕ)) (found : Option Picture) (p : Picture) (time : ℕ) (now : RestLeft m0 left0 r m left b0 d0 u0 held0) → is_some left ≡ is_some left0
+      → found ≡ Some p → TakeGives head before m left left' (Ok found) → m' + 1 ≡ m → time ≡ time_of → IsAt codec head b d u held (one_turn codec (session_of head) time p now.now) → RestLeft m0 left0 r m' left' b d u held
+  rest_next before m0 left0 r m m' left left' b0 b d0 u0 d u held0 held found p time now tells e t count same at = record {
     now = one_turn codec (session_of head) time_of p now.now;
     here = subst (λ (k : ℕ). IsAt codec head b d u held (one_turn codec (session_of head) k p now.now)) same at;
-    told = told_next m0 left0 r m m' left left' now.now found p tells e t count now.told;
+    told = told_next before m0 left0 r m m' left left' now.now found p tells e t count now.told;
   }
 
   -- where a rest leads
@@ -109,21 +108,21 @@ module _ {S : Type 0} (codec : Coding S) (head : Head) where
   now_left : (m0 : ℕ) (l0 : List ℕ) (r now : Run S) → now ≡ rest_of (clip_in head m0 l0).pictures (empty r) → now.left ≡ []
   now_left m0 l0 r now e = ap (λ (x : Run S). x.left) e ∙ (rest_grows codec head (clip_in head m0 l0).pictures (empty r)).left
 
-  told_end : (n m0 m m' : ℕ) (left0 left left' : Option (List ℕ)) (r now : Run S) (found : Option Picture) → is_some left ≡ is_some left0 → found ≡ None → TakeGives head m left left' (Ok found)
+  told_end : (before : ℕ) (n m0 m m' : ℕ) (left0 left left' : Option (List ℕ)) (r now : Run S) (found : Option Picture) → is_some left ≡ is_some left0 → found ≡ None → TakeGives head before m left left' (Ok found)
       → Told2 left0 left (λ l0 l. IsRest m0 l0 r m l now) → Told2 left0 left' (λ l0 l'. (more : List Numbered) → onward codec head m0 l0 ((n, Rest) ∷ more) r ≡ onward codec head m' l' more now)
-  told_end n m0 m m' None left left' r now found tells e t told = tt
-  told_end n m0 m m' (Some l0) left None r now found tells e t told = tt
-  told_end n m0 m m' (Some l0) None (Some l') r now found tells e t told = absurd (not_told tells)
-  told_end n m0 m m' (Some l0) (Some l) (Some l') r now (Some f) tells e t told = absurd cc
-  told_end n m0 m m' (Some l0) (Some l) (Some l') r now None tells e t told =
+  told_end before n m0 m m' None left left' r now found tells e t told = tt
+  told_end before n m0 m m' (Some l0) left None r now found tells e t told = tt
+  told_end before n m0 m m' (Some l0) None (Some l') r now found tells e t told = absurd (not_told tells)
+  told_end before n m0 m m' (Some l0) (Some l) (Some l') r now (Some f) tells e t told = absurd cc
+  told_end before n m0 m m' (Some l0) (Some l) (Some l') r now None tells e t told =
       let done = all_done m0 l0 r m l now None told (clip_end head m l t.0) in
       λ more.
       rest_goes_on n more (clip_in head m0 l0).pictures (clip_in head m0 l0).fault r done.1
       ∙ (ap (λ (x : Run S). end_of_lines codec head None more x) (sym (left_same now [] (now_left m0 l0 r now done.0) ∙ done.0)) ∙ sym (ap (λ (c : Clip). run_from codec head c more now) (clip_end head m' l' t.1)))
 
-  pub rest_end : (n m0 m m' : ℕ) (left0 left left' : Option (List ℕ)) (r : Run S) (b : CountedParts S) (d u : Marks) (held : Option (List ℕ)) (found : Option Picture) (now : RestLeft m0 left0 r m left b d u held) → is_some left ≡ is_some left0 → found ≡ None → TakeGives head m left left' (Ok found)
+  pub rest_end : (before : ℕ) (n m0 m m' : ℕ) (left0 left left' : Option (List ℕ)) (r : Run S) (b : CountedParts S) (d u : Marks) (held : Option (List ℕ)) (found : Option Picture) (now : RestLeft m0 left0 r m left b d u held) → is_some left ≡ is_some left0 → found ≡ None → TakeGives head before m left left' (Ok found)
       → (s : Run S) × (IsAt codec head b d u held s × Told2 left0 left' (λ l0 l'. (more : List Numbered) → onward codec head m0 l0 ((n, Rest) ∷ more) r ≡ onward codec head m' l' more s))
-  rest_end n m0 m m' left0 left left' r b d u held found now tells e t = (now.now, (now.here, told_end n m0 m m' left0 left left' r now.now found tells e t now.told))
+  rest_end before n m0 m m' left0 left left' r b d u held found now tells e t = (now.now, (now.here, told_end before n m0 m m' left0 left left' r now.now found tells e t now.told))
 
   ends_in : (n m0 m : ℕ) (more : List Numbered) (l0 l : List ℕ) (r now : Run S) (held : Option (List ℕ)) (end end' : End) → IsRest m0 l0 r m l now → clip_in head m l ≡ record { pictures = []; fault = Some end' } → end' ≡ end → IfSome held (λ o. o ≡ out_text head now.world)
       → EndsAs codec head held end (onward codec head m0 l0 ((n, Rest) ∷ more) r)
@@ -170,58 +169,59 @@ module _ {S : Type 0} (codec : Coding S) (head : Head) where
       let g : Grows now all = subst (λ (x : Run S). Grows now x) told.run (rest_grows codec head (clip_in head m l).pictures now) in
       follows_then now all _ (record { later = g.later; events = g.events }) (rest_final n more (clip_in head m0 l0).pictures (clip_in head m0 l0).fault r)
 
-  module _ (gives : DiaryFault → Bool) where
-    take_stops : (n m0 m : ℕ) (more : List Numbered) (left0 left left' : Option (List ℕ)) (r now : Run S) (b : CountedParts S) (held : Option (List ℕ)) (why : Stop) → is_some left ≡ is_some left0 → TakeGives head m left left' (Err why) → IsRunning codec head b held now
-        → Told2 left0 left (λ l0 l. IsRest m0 l0 r m l now) → Halts codec head gives left0 held (λ ls l. onward codec head m0 l ls r) ((n, Rest) ∷ more) why
-    take_stops n m0 m more left0 left left' r now b held (stop.BadScript line) tells t is told = absurd t
-    take_stops n m0 m more left0 left left' r now b held stop.Out tells t is told = absurd t
-    take_stops n m0 m more left0 left left' r now b held (stop.Diary fault) tells t is told = absurd t
-    take_stops n m0 m more None left left' r now b held (stop.BadInput place why) tells t is told = tt
-    take_stops n m0 m more None left left' r now b held stop.TooMany tells t is told = tt
-    take_stops n m0 m more None left left' r now b held stop.TooLong tells t is told = tt
-    take_stops n m0 m more None left left' r now b held stop.ReadFault tells t is told = tt
-    take_stops n m0 m more None left left' r now b held stop.Memory tells t is told = tt
-    take_stops n m0 m more (Some l0) None left' r now b held (stop.BadInput place why) tells t is told = absurd (not_told tells)
-    take_stops n m0 m more (Some l0) None left' r now b held stop.TooMany tells t is told = absurd (not_told tells)
-    take_stops n m0 m more (Some l0) None left' r now b held stop.TooLong tells t is told = absurd (not_told tells)
-    take_stops n m0 m more (Some l0) None left' r now b held stop.ReadFault tells t is told = absurd (not_told tells)
-    take_stops n m0 m more (Some l0) None left' r now b held stop.Memory tells t is told = absurd (not_told tells)
-    take_stops n m0 m more (Some l0) (Some l) left' r now b held (stop.BadInput place why) tells t is told =
-        ends_in n m0 m more l0 l r now held (BadInput place why) (BadInput 0 Form) told (clip_broken head m l t.2.0 t.2.1) (ap (λ (k : ℕ). BadInput k Form) (sym t.0) ∙ ap (λ (w : Why). BadInput place w) (sym t.1)) is.shown
-    take_stops n m0 m more (Some l0) (Some l) None r now b held stop.TooMany tells t is told = absurd t.2.1
-    take_stops n m0 m more (Some l0) (Some l) (Some l') r now b held stop.TooMany tells t is told = ends_in n m0 m more l0 l r now held TooMany (over head) told (clip_over head m l l' t.2.0 t.1 t.2.1) t.0 is.shown
-    take_stops n m0 m more (Some l0) (Some l) None r now b held stop.TooLong tells t is told = absurd t.2.1
-    take_stops n m0 m more (Some l0) (Some l) (Some l') r now b held stop.TooLong tells t is told = ends_in n m0 m more l0 l r now held TooLong (over head) told (clip_over head m l l' t.2.0 t.1 t.2.1) t.0 is.shown
-    take_stops n m0 m more (Some l0) (Some l) left' r now b held stop.ReadFault tells t is told = read_told n m0 m more l0 l r now b held told is
-    take_stops n m0 m more (Some l0) (Some l) left' r now b held stop.Memory tells t is told = part_of codec head held b now _ is (now_follows n m0 m more l0 l r now told)
+  module _ (gives : DiaryFault → Bool) (before0 : ℕ) where
+    take_stops : (before : ℕ) (n m0 m : ℕ) (more : List Numbered) (left0 left left' : Option (List ℕ)) (r now : Run S) (b : CountedParts S) (held : Option (List ℕ)) (why : RunStop) → is_some left ≡ is_some left0 → Carries before0 left0 before left → TakeGives head before m left left' (Err why) → IsRunning codec head b held now
+        → Told2 left0 left (λ l0 l. IsRest m0 l0 r m l now) → Halts codec head gives before0 left0 held (λ ls l. onward codec head m0 l ls r) ((n, Rest) ∷ more) why
+    take_stops before n m0 m more left0 left left' r now b held (stop.BadScript line) tells of t is told = absurd t
+    take_stops before n m0 m more left0 left left' r now b held stop.Out tells of t is told = absurd t
+    take_stops before n m0 m more left0 left left' r now b held (stop.Diary fault) tells of t is told = absurd t
+    take_stops before n m0 m more None left left' r now b held (stop.BadInput place why) tells of t is told = tt
+    take_stops before n m0 m more None left left' r now b held stop.TooMany tells of t is told = tt
+    take_stops before n m0 m more None left left' r now b held stop.TooLong tells of t is told = tt
+    take_stops before n m0 m more None left left' r now b held stop.ReadFault tells of t is told = tt
+    take_stops before n m0 m more None left left' r now b held stop.Memory tells of t is told = tt
+    take_stops before n m0 m more (Some l0) None left' r now b held (stop.BadInput place why) tells of t is told = absurd (not_told tells)
+    take_stops before n m0 m more (Some l0) None left' r now b held stop.TooMany tells of t is told = absurd (not_told tells)
+    take_stops before n m0 m more (Some l0) None left' r now b held stop.TooLong tells of t is told = absurd (not_told tells)
+    take_stops before n m0 m more (Some l0) None left' r now b held stop.ReadFault tells of t is told = absurd (not_told tells)
+    take_stops before n m0 m more (Some l0) None left' r now b held stop.Memory tells of t is told = absurd (not_told tells)
+    take_stops before n m0 m more (Some l0) (Some l) left' r now b held (stop.BadInput place why) tells of t is told =
+        let flaw = picture_flaw l in
+        (flaw, (ends_in n m0 m more l0 l r now held (BadInput flaw) (BadInput flaw) told (clip_broken head m l t.0 t.1.0) refl is.shown, of flaw place why t.1.1))
+    take_stops before n m0 m more (Some l0) (Some l) None r now b held stop.TooMany tells of t is told = absurd t.2.1
+    take_stops before n m0 m more (Some l0) (Some l) (Some l') r now b held stop.TooMany tells of t is told = ends_in n m0 m more l0 l r now held TooMany (over head) told (clip_over head m l l' t.2.0 t.1 t.2.1) t.0 is.shown
+    take_stops before n m0 m more (Some l0) (Some l) None r now b held stop.TooLong tells of t is told = absurd t.2.1
+    take_stops before n m0 m more (Some l0) (Some l) (Some l') r now b held stop.TooLong tells of t is told = ends_in n m0 m more l0 l r now held TooLong (over head) told (clip_over head m l l' t.2.0 t.1 t.2.1) t.0 is.shown
+    take_stops before n m0 m more (Some l0) (Some l) left' r now b held stop.ReadFault tells of t is told = read_told n m0 m more l0 l r now b held told is
+    take_stops before n m0 m more (Some l0) (Some l) left' r now b held stop.Memory tells of t is told = part_of codec head held b now _ is (now_follows n m0 m more l0 l r now told)
 
-    pub rest_take_exit : (n m0 m : ℕ) (more : List Numbered) (left0 left left' : Option (List ℕ)) (r : Run S) (b : CountedParts S) (d u : Marks) (held : Option (List ℕ)) (why : Stop) (now : RestLeft m0 left0 r m left b d u held) → is_some left ≡ is_some left0 → TakeGives head m left left' (Err why)
-        → Halts codec head gives left0 held (λ ls l. onward codec head m0 l ls r) ((n, Rest) ∷ more) why
-    rest_take_exit n m0 m more left0 left left' r b d u held why now tells t = take_stops n m0 m more left0 left left' r now.now b held why tells t now.here.running now.told
+    pub rest_take_exit : (before : ℕ) (n m0 m : ℕ) (more : List Numbered) (left0 left left' : Option (List ℕ)) (r : Run S) (b : CountedParts S) (d u : Marks) (held : Option (List ℕ)) (why : RunStop) (now : RestLeft m0 left0 r m left b d u held) → is_some left ≡ is_some left0 → Carries before0 left0 before left → TakeGives head before m left left' (Err why)
+        → Halts codec head gives before0 left0 held (λ ls l. onward codec head m0 l ls r) ((n, Rest) ∷ more) why
+    rest_take_exit before n m0 m more left0 left left' r b d u held why now tells of t = take_stops before n m0 m more left0 left left' r now.now b held why tells of t now.here.running now.told
 
-    turn_stops : (n m0 m m' : ℕ) (more : List Numbered) (left0 left left' : Option (List ℕ)) (r now : Run S) (held : Option (List ℕ)) (found : Option Picture) (p : Picture) (why : Stop) → is_some left' ≡ is_some left → is_some left ≡ is_some left0 → found ≡ Some p → TakeGives head m left left' (Ok found) → m' + 1 ≡ m
-        → Told2 left0 left (λ l0 l. IsRest m0 l0 r m l now) → Stopped codec head gives held (one_turn codec (session_of head) time_of p now).events why → Halts codec head gives left0 held (λ ls l. onward codec head m0 l ls r) ((n, Rest) ∷ more) why
-    turn_stops n m0 m m' more None left left' r now held found p why tells' tells e t count told p0 = stopped_untold codec head gives held _ why (λ ls l. onward codec head m0 l ls r) ((n, Rest) ∷ more) p0
-    turn_stops n m0 m m' more (Some l0) None left' r now held found p why tells' tells e t count told p0 = absurd (not_told tells)
-    turn_stops n m0 m m' more (Some l0) (Some l) None r now held found p why tells' tells e t count told p0 = absurd (not_told tells')
-    turn_stops n m0 m m' more (Some l0) (Some l) (Some l') r now held found p why tells' tells e t count told p0 =
-        let next : IsRest m0 l0 r m' l' (one_turn codec (session_of head) time_of p now) = told_next m0 (Some l0) r m m' (Some l) (Some l') now found p tells e t count told in
+    turn_stops : (before : ℕ) (n m0 m m' : ℕ) (more : List Numbered) (left0 left left' : Option (List ℕ)) (r now : Run S) (held : Option (List ℕ)) (found : Option Picture) (p : Picture) (why : RunStop) → is_some left' ≡ is_some left → is_some left ≡ is_some left0 → found ≡ Some p → TakeGives head before m left left' (Ok found) → m' + 1 ≡ m
+        → Told2 left0 left (λ l0 l. IsRest m0 l0 r m l now) → Stopped codec head gives held (one_turn codec (session_of head) time_of p now).events why → Halts codec head gives before0 left0 held (λ ls l. onward codec head m0 l ls r) ((n, Rest) ∷ more) why
+    turn_stops before n m0 m m' more None left left' r now held found p why tells' tells e t count told p0 = stopped_untold codec head gives before0 held _ why (λ ls l. onward codec head m0 l ls r) ((n, Rest) ∷ more) p0
+    turn_stops before n m0 m m' more (Some l0) None left' r now held found p why tells' tells e t count told p0 = absurd (not_told tells)
+    turn_stops before n m0 m m' more (Some l0) (Some l) None r now held found p why tells' tells e t count told p0 = absurd (not_told tells')
+    turn_stops before n m0 m m' more (Some l0) (Some l) (Some l') r now held found p why tells' tells e t count told p0 =
+        let next : IsRest m0 l0 r m' l' (one_turn codec (session_of head) time_of p now) = told_next before m0 (Some l0) r m m' (Some l) (Some l') now found p tells e t count told in
         let f = now_follows n m0 m' more l0 l' r (one_turn codec (session_of head) time_of p now) next in
-        stopped_part codec head gives (Some l0) held (one_turn codec (session_of head) time_of p now).events f.later l0 why (λ ls l. onward codec head m0 l ls r) ((n, Rest) ∷ more) refl f.events p0
+        stopped_part codec head gives before0 (Some l0) held (one_turn codec (session_of head) time_of p now).events f.later l0 why (λ ls l. onward codec head m0 l ls r) ((n, Rest) ∷ more) refl f.events p0
 
     -- what stops before the time passes
-    pub exchange_stops : (held : Option (List ℕ)) (p : Picture) (time : ℕ) (q : Run S) (why : Stop) → Stopped codec head gives held (exchange codec (session_of head) p q).events why → Stopped codec head gives held (one_turn codec (session_of head) time p q).events why
+    pub exchange_stops : (held : Option (List ℕ)) (p : Picture) (time : ℕ) (q : Run S) (why : RunStop) → Stopped codec head gives held (exchange codec (session_of head) p q).events why → Stopped codec head gives held (one_turn codec (session_of head) time p q).events why
     exchange_stops held p time q why p0 =
         let g : Grows (exchange codec (session_of head) p q) (one_turn codec (session_of head) time p q) = wait_grows codec head time (exchange codec (session_of head) p q) in
         stopped_later codec head gives held (exchange codec (session_of head) p q).events (one_turn codec (session_of head) time p q).events g.later why g.events p0
 
     -- no step of a run is stopped by the input
-    pub unread : {X : Type 0} (held : Option (List ℕ)) (events : List WorldEvent) (result : Result X Stop) (why : Stop) (n m : ℕ) → n ≤ m → IsErrAnd result (λ e. e ≡ why) → Stopped codec head gives held events why → HasCause (Err stop.ReadFault) n m result
+    pub unread : {X : Type 0} (held : Option (List ℕ)) (events : List WorldEvent) (result : Result X RunStop) (why : RunStop) (n m : ℕ) → n ≤ m → IsErrAnd result (λ e. e ≡ why) → Stopped codec head gives held events why → HasCause (Err stop.ReadFault) n m result
     unread held events (Ok x) why n m le h p = absurd h
-    unread held events (Err e) why n m le h p = record { later = le; rose = λ q. let same : why ≡ stop.ReadFault = cc in absurd (subst (λ (s : Stop). Stopped codec head gives held events s) same p) }
+    unread held events (Err e) why n m le h p = record { later = le; rose = λ q. let same : why ≡ stop.ReadFault = cc in absurd (subst (λ (s : RunStop). Stopped codec head gives held events s) same p) }
 
-    pub rest_turn_exit : (n m0 m m' : ℕ) (more : List Numbered) (left0 left left' : Option (List ℕ)) (r : Run S) (b : CountedParts S) (d u : Marks) (held0 held : Option (List ℕ)) (found : Option Picture) (p : Picture) (time : ℕ) (why : Stop) (now : RestLeft m0 left0 r m left b d u held0)
-        → is_some left' ≡ is_some left → is_some left ≡ is_some left0 → found ≡ Some p → TakeGives head m left left' (Ok found) → m' + 1 ≡ m → time ≡ time_of → Stopped codec head gives held (one_turn codec (session_of head) time p now.now).events why
-        → Halts codec head gives left0 held (λ ls l. onward codec head m0 l ls r) ((n, Rest) ∷ more) why
-    rest_turn_exit n m0 m m' more left0 left left' r b d u held0 held found p time why now tells' tells e t count same p0 =
-        turn_stops n m0 m m' more left0 left left' r now.now held found p why tells' tells e t count now.told (subst (λ (k : ℕ). Stopped codec head gives held (one_turn codec (session_of head) k p now.now).events why) same p0)
+    pub rest_turn_exit : (before : ℕ) (n m0 m m' : ℕ) (more : List Numbered) (left0 left left' : Option (List ℕ)) (r : Run S) (b : CountedParts S) (d u : Marks) (held0 held : Option (List ℕ)) (found : Option Picture) (p : Picture) (time : ℕ) (why : RunStop) (now : RestLeft m0 left0 r m left b d u held0)
+        → is_some left' ≡ is_some left → is_some left ≡ is_some left0 → found ≡ Some p → TakeGives head before m left left' (Ok found) → m' + 1 ≡ m → time ≡ time_of → Stopped codec head gives held (one_turn codec (session_of head) time p now.now).events why
+        → Halts codec head gives before0 left0 held (λ ls l. onward codec head m0 l ls r) ((n, Rest) ∷ more) why
+    rest_turn_exit before n m0 m m' more left0 left left' r b d u held0 held found p time why now tells' tells e t count same p0 =
+        turn_stops before n m0 m m' more left0 left left' r now.now held found p why tells' tells e t count now.told (subst (λ (k : ℕ). Stopped codec head gives held (one_turn codec (session_of head) k p now.now).events why) same p0)

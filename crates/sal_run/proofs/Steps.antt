@@ -30,8 +30,8 @@ use Rattle.sal_world.specs.Answers.{choose_answer, done_answer}
 use Rattle.sal_world.specs.Stands.{Stands, HappenedUnless}
 use Rattle.sal_world.specs.Script.{Run, with_event}
 use Rattle.sal_world.specs.declared.diary.DiaryFault.{DiaryFault}
-use Rattle.sal_run.specs.declared.stop.Stop.{Stop}
-use Rattle.sal_run.specs.declared.stop.Stop.TheVariants.{BadInput, BadScript, TooMany, TooLong, ReadFault, Out, Diary, Memory}
+use Rattle.sal_run.specs.declared.stop.RunStop.{RunStop}
+use Rattle.sal_run.specs.declared.stop.RunStop.TheVariants.{BadInput, BadScript, TooMany, TooLong, ReadFault, Out, Diary, Memory}
 use Rattle.sal_run.specs.Loop.{session_of, shown_text, out_text}
 use Rattle.sal_run.specs.Running.{text_of, Shows, IsNoted, IsRunning, PartlyOf, CutOf, Stopped, Goes}
 
@@ -125,7 +125,7 @@ module _ {S : Type 0} (codec : Coding S) (head : Head) where
 
   module _ (gives : DiaryFault → Bool) where
     -- what stops some events stops more
-    pub stopped_later : (held : Option (List ℕ)) (events all later : List WorldEvent) (stop : Stop) → all ≡ later ++ events → Stopped codec head gives held events stop → Stopped codec head gives held all stop
+    pub stopped_later : (held : Option (List ℕ)) (events all later : List WorldEvent) (stop : RunStop) → all ≡ later ++ events → Stopped codec head gives held events stop → Stopped codec head gives held all stop
     stopped_later held events all later (BadInput place why) e p = p
     stopped_later held events all later (BadScript line) e p = p
     stopped_later held events all later TooMany e p = p
@@ -135,10 +135,10 @@ module _ {S : Type 0} (codec : Coding S) (head : Head) where
     stopped_later held events all later (Diary fault) e p = (p.0, if_later held events all later e p.1)
     stopped_later held events all later Memory e p = if_later held events all later e p
 
-    pub memory_stops : (b : CountedParts S) (held : Option (List ℕ)) (r : Run S) (events later : List WorldEvent) (stop : Stop) → stop ≡ Memory → IsRunning codec head b held r → events ≡ later ++ r.events → Stopped codec head gives held events stop
+    pub memory_stops : (b : CountedParts S) (held : Option (List ℕ)) (r : Run S) (events later : List WorldEvent) (stop : RunStop) → stop ≡ Memory → IsRunning codec head b held r → events ≡ later ++ r.events → Stopped codec head gives held events stop
     memory_stops b held r events later stop e is same = subst (λ s. Stopped codec head gives held events s) (sym e) (partly b held r events later is same)
 
-    pub noted_stops : (b : CountedParts S) (held : Option (List ℕ)) (r : Run S) (events later : List WorldEvent) (stop : Stop) → IsNoted gives (Err stop) → IsRunning codec head b held r → events ≡ later ++ r.events → Stopped codec head gives held events stop
+    pub noted_stops : (b : CountedParts S) (held : Option (List ℕ)) (r : Run S) (events later : List WorldEvent) (stop : RunStop) → IsNoted gives (Err stop) → IsRunning codec head b held r → events ≡ later ++ r.events → Stopped codec head gives held events stop
     noted_stops b held r events later (BadInput place why) h is e = absurd h
     noted_stops b held r events later (BadScript line) h is e = absurd h
     noted_stops b held r events later TooMany h is e = absurd h
@@ -149,11 +149,11 @@ module _ {S : Type 0} (codec : Coding S) (head : Head) where
     noted_stops b held r events later Memory h is e = absurd h
 
     -- the line of what happened is given last
-    pub goes_noted : (b : CountedParts S) (held : Option (List ℕ)) (r : Run S) (result : Result (Unit {0}) Stop) → IsNoted gives result → IsRunning codec head b held r → Goes codec head gives b held r result
+    pub goes_noted : (b : CountedParts S) (held : Option (List ℕ)) (r : Run S) (result : Result (Unit {0}) RunStop) → IsNoted gives result → IsRunning codec head b held r → Goes codec head gives b held r result
     goes_noted b held r (Ok x) h is = is
     goes_noted b held r (Err stop) h is = noted_stops b held r r.events [] stop h is refl
 
-    pub goes_exit : {X : Type 0} (b : CountedParts S) (held : Option (List ℕ)) (r : Run S) (result : Result X Stop) (stop : Stop) → IsErrAnd result (λ e. e ≡ stop) → Stopped codec head gives held r.events stop → Goes codec head gives b held r result
+    pub goes_exit : {X : Type 0} (b : CountedParts S) (held : Option (List ℕ)) (r : Run S) (result : Result X RunStop) (stop : RunStop) → IsErrAnd result (λ e. e ≡ stop) → Stopped codec head gives held r.events stop → Goes codec head gives b held r result
     goes_exit b held r (Ok x) stop h p = absurd h
     goes_exit b held r (Err e) stop h p = subst (λ s. Stopped codec head gives held r.events s) (sym h) p
 
@@ -162,7 +162,7 @@ module _ {S : Type 0} (codec : Coding S) (head : Head) where
     lacking_stops b held r e is = memory_stops b held r (e ∷ r.events) (e ∷ []) Memory refl is refl
 
     -- the line of an event wasn't given
-    pub note_exit : {X : Type 0} (b new : CountedParts S) (held : Option (List ℕ)) (r : Run S) (e : WorldEvent) (result : Result X Stop) (stop : Stop) → IsErrAnd result (λ s. s ≡ stop) → IsNoted gives (Err stop) → IsRunning codec head b held r → Goes codec head gives new held (with_event codec (session_of head) e r) result
+    pub note_exit : {X : Type 0} (b new : CountedParts S) (held : Option (List ℕ)) (r : Run S) (e : WorldEvent) (result : Result X RunStop) (stop : RunStop) → IsErrAnd result (λ s. s ≡ stop) → IsNoted gives (Err stop) → IsRunning codec head b held r → Goes codec head gives new held (with_event codec (session_of head) e r) result
     note_exit b new held r e result stop h noted is = goes_exit new held (with_event codec (session_of head) e r) result stop h (noted_stops b held r (e ∷ r.events) (e ∷ []) stop noted is refl)
 
   -- ---- a decoding
@@ -200,7 +200,7 @@ module _ {S : Type 0} (codec : Coding S) (head : Head) where
         put.2 ∙ (ap (λ (l : List ℕ). l ++ take put.0 text) p ∙ (sym (take-append-add old text put.0) ∙ ap (take (length old + put.0)) (sym e))) in
         (length old + put.0, (new, ([], (events, refl, last)), front))
 
-    did_show : (b new : CountedParts S) (held held' : Option (List ℕ)) (r s : Run S) (text : List ℕ) (later : List WorldEvent) (result : Result (Unit {0}) Stop) → is_some held' ≡ is_some held → IsRunning codec head b held r
+    did_show : (b new : CountedParts S) (held held' : Option (List ℕ)) (r s : Run S) (text : List ℕ) (later : List WorldEvent) (result : Result (Unit {0}) RunStop) → is_some held' ≡ is_some held → IsRunning codec head b held r
         → Stands codec (session_of head) new.world s.events → new.counts ≡ counts_of s.world → s.world ≡ after codec (session_of head) s.events → out_text head s.world ≡ out_text head r.world ++ text → s.events ≡ later ++ r.events → Shows gives held held' text result → Goes codec head gives new held' s result
     did_show b new held held' r s text later (Ok x) tells is stands counts world more events p = record { stands = stands; counts = counts; world = world; shown = written held held' text (out_text head r.world) (out_text head s.world) tells more is.shown p }
     did_show b new held held' r s text later (Err (BadInput place why)) tells is stands counts world more events p = absurd p
@@ -213,7 +213,7 @@ module _ {S : Type 0} (codec : Coding S) (head : Head) where
     did_show b new held held' r s text later (Err Memory) tells is stands counts world more events p = absurd p
 
     -- a decoding of a frame that was handed out, for which there was memory
-    pub decoded_goes : (b new : CountedParts S) (held held' : Option (List ℕ)) (r : Run S) (n : ℕ) (ran : Bool) (done : Done) (result : Result (Unit {0}) Stop) → is_some held' ≡ is_some held → ran ≡ true → IsRunning codec head b held r
+    pub decoded_goes : (b new : CountedParts S) (held held' : Option (List ℕ)) (r : Run S) (n : ℕ) (ran : Bool) (done : Done) (result : Result (Unit {0}) RunStop) → is_some held' ≡ is_some held → ran ≡ true → IsRunning codec head b held r
         → done ≡ done_answer codec (session_of head) (after codec (session_of head) r.events) n ran → Stands codec (session_of head) new.world (Decodes n ran ∷ r.events) → new.counts ≡ with_done done b.counts → Shows gives held held' (text_of done) result
         → Goes codec head gives new held' (with_event codec (session_of head) (Decodes n true) r) result
     unfolding after

@@ -13,9 +13,9 @@ use Rattle.sal_sender.specs.Choosing.{is_fine, first_in}
 use Rattle.sal_sender.specs.Answers.{waiting_jobs}
 use Rattle.sal_sender.specs.JobWork.{JobWork, encoded, given}
 use Rattle.sal_sender.specs.Stands.{work_of}
-use Rattle.sal_receiver.specs.Past.{Call}
+use Rattle.sal_receiver.specs.Past.{ReceiverCall}
 use Rattle.sal_receiver.specs.Ready.{ready_source}
-use Rattle.sal_receiver.specs.Ready.{take_answer as ready_answer}
+use Rattle.sal_receiver.specs.Ready.{ready_answer}
 use Rattle.sal_receiver.specs.Handed.{HandedFrame}
 use Rattle.sal_receiver.proofs.Was.{take_waits}
 use Rattle.sal_run.specs.CountedParts.{CountedParts}
@@ -24,8 +24,8 @@ use Rattle.sal_world.specs.HandedOut.{next_job, next_frame, frame_from, frame_at
 use Rattle.sal_world.specs.Stands.{WasHandedOut, WasReady}
 use Rattle.sal_world.specs.Script.{Run, gives, with_event, run_jobs, drained}
 use Rattle.sal_world.specs.declared.diary.DiaryFault.{DiaryFault}
-use Rattle.sal_run.specs.declared.stop.Stop.{Stop}
-use Rattle.sal_run.specs.declared.stop.Stop.TheVariants.{Out}
+use Rattle.sal_run.specs.declared.stop.RunStop.{RunStop}
+use Rattle.sal_run.specs.declared.stop.RunStop.TheVariants.{Out}
 use Rattle.sal_io.specs.Calls.{HasCause}
 use Rattle.sal_run.specs.Loop.{session_of}
 use Rattle.sal_run.specs.Running.{IsRunning, PartlyOf, Stopped, Goes}
@@ -49,12 +49,12 @@ map_length f [] = refl
 map_length f (x ∷ xs) = ap (λ n. suc n) (map_length f xs)
 
 -- a stop that isn't the output's
-pub no_out : {X : Type 0} (result : Result X Stop) (stop : Stop) (n m : ℕ) → n ≤ m → IsErrAnd result (λ e. e ≡ stop) → (stop ≡ Out → ⊥) → HasCause (Err Out) n m result
+pub no_out : {X : Type 0} (result : Result X RunStop) (stop : RunStop) (n m : ℕ) → n ≤ m → IsErrAnd result (λ e. e ≡ stop) → (stop ≡ Out → ⊥) → HasCause (Err Out) n m result
 no_out (Ok x) stop n m le h p = absurd h
 no_out (Err e) stop n m le h p = record { later = le; rose = λ q. let same : stop ≡ Out = cc in absurd (p same) }
 
-pub never_stop : {X : Type 0} (stop : Stop) → (◌≡◌ {A = Result X Stop} (Err stop) (Err Out) → ⊥) → stop ≡ Out → ⊥
-never_stop {X = X} stop never e = never (ap (λ (s : Stop). Err s) e)
+pub never_stop : {X : Type 0} (stop : RunStop) → (◌≡◌ {A = Result X RunStop} (Err stop) (Err Out) → ⊥) → stop ≡ Out → ⊥
+never_stop {X = X} stop never e = never (ap (λ (s : RunStop). Err s) e)
 
 -- a fault that had its cause later had it since before
 pub later_cause : {A : Type 0} (fault : A) (a b c : ℕ) (answer : A) → a ≤ b → HasCause fault b c answer → HasCause fault a c answer
@@ -104,14 +104,14 @@ module _ {S : Type 0} (codec : Coding S) (head : Head) where
   }
 
   module _ (gives : DiaryFault → Bool) where
-    pub take_exit : {X : Type 0} (b new : CountedParts S) (held : Option (List ℕ)) (late : Bool) (r : Run S) (role : JobRole) (result : Result X Stop) (stop : Stop) → IsRunning codec head b held r
+    pub take_exit : {X : Type 0} (b new : CountedParts S) (held : Option (List ℕ)) (late : Bool) (r : Run S) (role : JobRole) (result : Result X RunStop) (stop : RunStop) → IsRunning codec head b held r
         → Some role ≡ option_map (λ job. job.role) (first_in (waiting_jobs (after codec (session_of head) r.events).sender)) → (late && is_fine_role role) ≡ false → IsErrAnd result (λ e. e ≡ stop)
         → Stopped codec head gives held (TakesJob ∷ r.events) stop → Goes codec head gives new held (one_job codec (session_of head) late r) result
     take_exit b new held late r role result stop is e quick h p =
         let more = job_later late r role (first_in (waiting_jobs r.world.sender)) (roles r role is.world e) quick in
         goes_exit codec head gives new held (one_job codec (session_of head) late r) result stop h (stopped_later codec head gives held (TakesJob ∷ r.events) (one_job codec (session_of head) late r).events more.0 stop more.1 p)
 
-    pub report_exit : {X : Type 0} (b new : CountedParts S) (held : Option (List ℕ)) (late : Bool) (r : Run S) (role : JobRole) (job work : JobWork S) (result : Result X Stop) (stop : Stop) → IsRunning codec head b held r
+    pub report_exit : {X : Type 0} (b new : CountedParts S) (held : Option (List ℕ)) (late : Bool) (r : Run S) (role : JobRole) (job work : JobWork S) (result : Result X RunStop) (stop : RunStop) → IsRunning codec head b held r
         → Some role ≡ option_map (λ job. job.role) (first_in (waiting_jobs (after codec (session_of head) r.events).sender)) → (late && is_fine_role role) ≡ false → next_job codec r.world.sender ≡ Some job → work ≡ job
         → IsErrAnd result (λ e. e ≡ stop) → Stopped codec head gives held (event (Reports work.id (given (encoded codec work))) (event TakesJob r)).events stop → Goes codec head gives new held (one_job codec (session_of head) late r) result
     report_exit b new held late r role job work result stop is e quick next same h p =
@@ -181,7 +181,7 @@ module _ {S : Type 0} (codec : Coding S) (head : Head) where
   grows_either false r s t p q = q
 
   module _ (gives : DiaryFault → Bool) where
-    pub jobs_exit : {X : Type 0} (late : Bool) (i : ℕ) (b new : CountedParts S) (held : Option (List ℕ)) (r : Run S) (result : Result X Stop) (stop : Stop) (left : JobsLeft late i b held r) → i < 3 → IsErrAnd result (λ e. e ≡ stop)
+    pub jobs_exit : {X : Type 0} (late : Bool) (i : ℕ) (b new : CountedParts S) (held : Option (List ℕ)) (r : Run S) (result : Result X RunStop) (stop : RunStop) (left : JobsLeft late i b held r) → i < 3 → IsErrAnd result (λ e. e ≡ stop)
         → Stopped codec head gives held (one_job codec (session_of head) late left.now).events stop → Goes codec head gives new held (run_jobs codec (session_of head) (is_late late) 3 r) result
     jobs_exit late i b new held r result stop left lt h p =
         let n = jobs_count i lt in
@@ -200,14 +200,14 @@ module _ {S : Type 0} (codec : Coding S) (head : Head) where
   frame_later r (Some n) = (Decodes n true ∷ [], refl)
 
   -- a frame that was handed out is that of the least number that is ready
-  frame_number : (past : List (Call S)) (n : ℕ) (o : Option S) (h : HandedFrame S) → option_map (frame_from codec past n) o ≡ Some h → h.number ≡ n
+  frame_number : (past : List (ReceiverCall S)) (n : ℕ) (o : Option S) (h : HandedFrame S) → option_map (frame_from codec past n) o ≡ Some h → h.number ≡ n
   frame_number past n None h e = absurd cc
   frame_number past n (Some source) h e = sym (ap (λ (x : HandedFrame S). x.number) (some_is _ _ e))
     where
       some_is : (a b : HandedFrame S) → Some a ≡ Some b → a ≡ b
       some_is a b e = cc
 
-  number_among : (past : List (Call S)) (o : Option ℕ) (h : HandedFrame S) → option_and_then (frame_at codec past) o ≡ Some h → o ≡ Some h.number
+  number_among : (past : List (ReceiverCall S)) (o : Option ℕ) (h : HandedFrame S) → option_and_then (frame_at codec past) o ≡ Some h → o ≡ Some h.number
   number_among past None h e = absurd cc
   number_among past (Some n) h e = ap (λ k. Some k) (sym (frame_number past n (ready_source codec past n) h e))
 
@@ -217,7 +217,7 @@ module _ {S : Type 0} (codec : Coding S) (head : Head) where
   pub frame_some : (r : Run S) (h : HandedFrame S) → next_frame codec r.world.receiver ≡ Some h → true ≡ is_frame codec r
   frame_some r h e = sym (ap is_some (number_among r.world.receiver (ready_answer codec r.world.receiver) h e))
 
-  none_mapped : (past : List (Call S)) (n : ℕ) (q : Option S) → is_some q ≡ true → option_map (frame_from codec past n) q ≡ None → ⊥
+  none_mapped : (past : List (ReceiverCall S)) (n : ℕ) (q : Option S) → is_some q ≡ true → option_map (frame_from codec past n) q ≡ None → ⊥
   none_mapped past n None e h = absurd cc
   none_mapped past n (Some source) e h = absurd cc
 
@@ -225,11 +225,11 @@ module _ {S : Type 0} (codec : Coding S) (head : Head) where
   and_true true b e = refl
   and_true false b e = e
 
-  none_among : (past : List (Call S)) (o : Option ℕ) → ((n : ℕ) → Some n ≡ o → is_some (ready_source codec past n) ≡ true) → option_and_then (frame_at codec past) o ≡ None → o ≡ None
+  none_among : (past : List (ReceiverCall S)) (o : Option ℕ) → ((n : ℕ) → Some n ≡ o → is_some (ready_source codec past n) ≡ true) → option_and_then (frame_at codec past) o ≡ None → o ≡ None
   none_among past None some e = refl
   none_among past (Some n) some e = absurd (none_mapped past n (ready_source codec past n) (some n refl) e)
 
-  no_answer : (past : List (Call S)) → next_frame codec past ≡ None → ready_answer codec past ≡ None
+  no_answer : (past : List (ReceiverCall S)) → next_frame codec past ≡ None → ready_answer codec past ≡ None
   no_answer past e = none_among past (ready_answer codec past) (λ n h. and_true _ _ (and_true _ _ (take_waits codec past n h))) e
 
   pub frame_none : (r : Run S) → next_frame codec r.world.receiver ≡ None → false ≡ is_frame codec r
@@ -301,18 +301,18 @@ module _ {S : Type 0} (codec : Coding S) (head : Head) where
   frames_last count i b new held r left low high is = subst (λ (s : Run S). IsRunning codec head new held s) (left.onward 0 (omega (arith, low, high))) is
 
   module _ (gives : DiaryFault → Bool) where
-    pub ready_exit : {X : Type 0} (new : CountedParts S) (held : Option (List ℕ)) (r : Run S) (result : Result X Stop) (stop : Stop) → IsErrAnd result (λ e. e ≡ stop) → Stopped codec head gives held (TakesReady ∷ r.events) stop → Goes codec head gives new held (one_frame codec (session_of head) r) result
+    pub ready_exit : {X : Type 0} (new : CountedParts S) (held : Option (List ℕ)) (r : Run S) (result : Result X RunStop) (stop : RunStop) → IsErrAnd result (λ e. e ≡ stop) → Stopped codec head gives held (TakesReady ∷ r.events) stop → Goes codec head gives new held (one_frame codec (session_of head) r) result
     ready_exit new held r result stop h p =
         let more = frame_later r (ready_answer codec r.world.receiver) in
         goes_exit codec head gives new held (one_frame codec (session_of head) r) result stop h (stopped_later codec head gives held (TakesReady ∷ r.events) (one_frame codec (session_of head) r).events more.0 stop more.1 p)
 
-    pub decoded_exit : {X : Type 0} (new : CountedParts S) (held : Option (List ℕ)) (r : Run S) (frame handed_in : HandedFrame S) (result : Result X Stop) (stop : Stop) → next_frame codec r.world.receiver ≡ Some frame → handed_in ≡ frame → IsErrAnd result (λ e. e ≡ stop)
+    pub decoded_exit : {X : Type 0} (new : CountedParts S) (held : Option (List ℕ)) (r : Run S) (frame handed_in : HandedFrame S) (result : Result X RunStop) (stop : RunStop) → next_frame codec r.world.receiver ≡ Some frame → handed_in ≡ frame → IsErrAnd result (λ e. e ≡ stop)
         → Stopped codec head gives held (event (Decodes handed_in.number true) (event TakesReady r)).events stop → Goes codec head gives new held (one_frame codec (session_of head) r) result
     decoded_exit new held r frame handed_in result stop next same h p =
         goes_exit codec head gives new held (one_frame codec (session_of head) r) result stop h
         (subst (λ (s : Run S). Stopped codec head gives held s.events stop) (ap (λ (v : HandedFrame S). event (Decodes v.number true) (event TakesReady r)) same ∙ sym (frame_is r frame next)) p)
 
-    pub frames_exit : {X : Type 0} (count i : ℕ) (b new : CountedParts S) (held held' : Option (List ℕ)) (r : Run S) (result : Result X Stop) (stop : Stop) (left : FramesLeft count i b held r) → i < count → IsErrAnd result (λ e. e ≡ stop)
+    pub frames_exit : {X : Type 0} (count i : ℕ) (b new : CountedParts S) (held held' : Option (List ℕ)) (r : Run S) (result : Result X RunStop) (stop : RunStop) (left : FramesLeft count i b held r) → i < count → IsErrAnd result (λ e. e ≡ stop)
         → Stopped codec head gives held' (one_frame codec (session_of head) left.now).events stop → Goes codec head gives new held' (drained codec (session_of head) (length (acks r.world)) r) result
     frames_exit count i b new held held' r result stop left lt h p =
         let n = frames_count count i lt in
@@ -324,7 +324,7 @@ module _ {S : Type 0} (codec : Coding S) (head : Head) where
         (drained_kept codec (session_of head) (λ s. Grows one s) (λ e u s g. grows_event codec (session_of head) one e s g) n.0 one (grows_none one)) (grows_none one)) in
         goes_exit codec head gives new held' all result stop h (stopped_later codec head gives held' one.events all.events grown.later stop grown.events p)
 
-    pub last_exit : {X : Type 0} (count i : ℕ) (b new : CountedParts S) (held : Option (List ℕ)) (r : Run S) (result : Result X Stop) (stop : Stop) (left : FramesLeft count i b held r) → count ≤ i → i ≤ count → IsErrAnd result (λ e. e ≡ stop)
+    pub last_exit : {X : Type 0} (count i : ℕ) (b new : CountedParts S) (held : Option (List ℕ)) (r : Run S) (result : Result X RunStop) (stop : RunStop) (left : FramesLeft count i b held r) → count ≤ i → i ≤ count → IsErrAnd result (λ e. e ≡ stop)
         → Stopped codec head gives held (TakesReady ∷ left.now.events) stop → Goes codec head gives new held (drained codec (session_of head) (length (acks r.world)) r) result
     unfolding drained
     last_exit count i b new held r result stop left low high h p =
@@ -335,20 +335,20 @@ module _ {S : Type 0} (codec : Coding S) (head : Head) where
     abbrev shot_after : Bool → Run S → Run S
     shot_after late s = run_jobs codec (session_of head) (is_late false) 3 (event Chooses (run_jobs codec (session_of head) (is_late late) 3 s))
 
-    pub start_exit : {X : Type 0} (new : CountedParts S) (held : Option (List ℕ)) (late : Bool) (picture : Picture) (r : Run S) (result : Result X Stop) (stop : Stop) → IsErrAnd result (λ e. e ≡ stop) → Stopped codec head gives held (Starts picture ∷ r.events) stop → Goes codec head gives new held (shot_after late (event (Starts picture) r)) result
+    pub start_exit : {X : Type 0} (new : CountedParts S) (held : Option (List ℕ)) (late : Bool) (picture : Picture) (r : Run S) (result : Result X RunStop) (stop : RunStop) → IsErrAnd result (λ e. e ≡ stop) → Stopped codec head gives held (Starts picture ∷ r.events) stop → Goes codec head gives new held (shot_after late (event (Starts picture) r)) result
     start_exit new held late picture r result stop h p =
         let s : Run S = event (Starts picture) r in
         let grown : Grows s (shot_after late s) = chosen_kept codec (session_of head) (λ t. Grows s t) (λ e u t g. grows_event codec (session_of head) s e t g) (is_late late) s (grows_none s) in
         goes_exit codec head gives new held (shot_after late s) result stop h (stopped_later codec head gives held s.events (shot_after late s).events grown.later stop grown.events p)
 
-    pub early_exit : {X : Type 0} (new : CountedParts S) (held : Option (List ℕ)) (late : Bool) (s : Run S) (result : Result X Stop) (stop : Stop) → IsErrAnd result (λ e. e ≡ stop) → Stopped codec head gives held (run_jobs codec (session_of head) (is_late late) 3 s).events stop → Goes codec head gives new held (shot_after late s) result
+    pub early_exit : {X : Type 0} (new : CountedParts S) (held : Option (List ℕ)) (late : Bool) (s : Run S) (result : Result X RunStop) (stop : RunStop) → IsErrAnd result (λ e. e ≡ stop) → Stopped codec head gives held (run_jobs codec (session_of head) (is_late late) 3 s).events stop → Goes codec head gives new held (shot_after late s) result
     early_exit new held late s result stop h p =
         let early : Run S = run_jobs codec (session_of head) (is_late late) 3 s in
         let grown : Grows early (shot_after late s) =
         jobs_kept codec (session_of head) (λ t. Grows early t) (λ e u t g. grows_event codec (session_of head) early e t g) (is_late false) 3 (event Chooses early) (grows_event codec (session_of head) early Chooses early (grows_none early)) in
         goes_exit codec head gives new held (shot_after late s) result stop h (stopped_later codec head gives held early.events (shot_after late s).events grown.later stop grown.events p)
 
-    pub choose_exit : {X : Type 0} (new : CountedParts S) (held : Option (List ℕ)) (late : Bool) (s : Run S) (result : Result X Stop) (stop : Stop) → IsErrAnd result (λ e. e ≡ stop) → Stopped codec head gives held (event Chooses (run_jobs codec (session_of head) (is_late late) 3 s)).events stop → Goes codec head gives new held (shot_after late s) result
+    pub choose_exit : {X : Type 0} (new : CountedParts S) (held : Option (List ℕ)) (late : Bool) (s : Run S) (result : Result X RunStop) (stop : RunStop) → IsErrAnd result (λ e. e ≡ stop) → Stopped codec head gives held (event Chooses (run_jobs codec (session_of head) (is_late late) 3 s)).events stop → Goes codec head gives new held (shot_after late s) result
     choose_exit new held late s result stop h p =
         let chosen : Run S = event Chooses (run_jobs codec (session_of head) (is_late late) 3 s) in
         let grown : Grows chosen (shot_after late s) = jobs_kept codec (session_of head) (λ t. Grows chosen t) (λ e u t g. grows_event codec (session_of head) chosen e t g) (is_late false) 3 chosen (grows_none chosen) in

@@ -13,8 +13,8 @@ use Rattle.sal_run.specs.CountedParts.{CountedParts}
 use Rattle.sal_world.specs.World.{WorldEvent, Delivers, Hears, Passes, acks}
 use Rattle.sal_world.specs.Script.{Run, downs_in, ups_in, unnamed, with_event, next_picture, down, up, each, wait}
 use Rattle.sal_world.specs.declared.diary.DiaryFault.{DiaryFault}
-use Rattle.sal_run.specs.declared.stop.Stop.{Stop}
-use Rattle.sal_run.specs.declared.stop.Stop.TheVariants.{Memory}
+use Rattle.sal_run.specs.declared.stop.RunStop.{RunStop}
+use Rattle.sal_run.specs.declared.stop.RunStop.TheVariants.{Memory}
 use Rattle.sal_run.specs.Loop.{session_of}
 use Rattle.sal_run.specs.Marks.{Marks, is_marked}
 use Rattle.sal_run.specs.Named.{AreNamed, IsMarked}
@@ -175,19 +175,19 @@ module _ {S : Type 0} (codec : Coding S) (head : Head) where
   event e r = with_event codec (session_of head) e r
 
   module _ (gives : DiaryFault → Bool) where
-    pub comes_exit : {X : Type 0} (b : CountedParts S) (downs ups : Marks) (held : Option (List ℕ)) (r : Run S) (result : Result X Stop) (stop : Stop) → IsErrAnd result (λ e. e ≡ stop) → Stopped codec head gives held r.events stop → Comes codec head gives b downs ups held r result
+    pub comes_exit : {X : Type 0} (b : CountedParts S) (downs ups : Marks) (held : Option (List ℕ)) (r : Run S) (result : Result X RunStop) (stop : RunStop) → IsErrAnd result (λ e. e ≡ stop) → Stopped codec head gives held r.events stop → Comes codec head gives b downs ups held r result
     comes_exit b downs ups held r (Ok x) stop h p = absurd h
     comes_exit b downs ups held r (Err e) stop h p = subst (λ s. Stopped codec head gives held r.events s) (sym h) p
 
     -- what stops a part stops the whole
-    pub grown_exit : {X : Type 0} (b : CountedParts S) (downs ups : Marks) (held : Option (List ℕ)) (s r : Run S) (result : Result X Stop) (stop : Stop) → Grows s r → IsErrAnd result (λ e. e ≡ stop) → Stopped codec head gives held s.events stop → Comes codec head gives b downs ups held r result
+    pub grown_exit : {X : Type 0} (b : CountedParts S) (downs ups : Marks) (held : Option (List ℕ)) (s r : Run S) (result : Result X RunStop) (stop : RunStop) → Grows s r → IsErrAnd result (λ e. e ≡ stop) → Stopped codec head gives held s.events stop → Comes codec head gives b downs ups held r result
     grown_exit b downs ups held s r result stop grown h p = comes_exit b downs ups held r result stop h (stopped_later codec head gives held s.events r.events grown.later stop grown.events p)
 
-    pub memory_exit : {X : Type 0} (old b : CountedParts S) (downs ups : Marks) (held : Option (List ℕ)) (s r : Run S) (result : Result X Stop) (stop : Stop) → Grows s r → IsErrAnd result (λ e. e ≡ stop) → stop ≡ Memory → IsRunning codec head old held s → Comes codec head gives b downs ups held r result
+    pub memory_exit : {X : Type 0} (old b : CountedParts S) (downs ups : Marks) (held : Option (List ℕ)) (s r : Run S) (result : Result X RunStop) (stop : RunStop) → Grows s r → IsErrAnd result (λ e. e ≡ stop) → stop ≡ Memory → IsRunning codec head old held s → Comes codec head gives b downs ups held r result
     memory_exit old b downs ups held s r result stop grown h is_memory is = comes_exit b downs ups held r result stop h (memory_stops codec head gives old held s r.events grown.later stop is_memory is grown.events)
 
     -- a picture names no number
-    pub next_comes : (b : CountedParts S) (downs ups : Marks) (held : Option (List ℕ)) (late : Job → Bool) (picture : Picture) (r : Run S) (result : Result (Unit {0}) Stop) → AreNamed downs_in r.events downs → AreNamed ups_in r.events ups
+    pub next_comes : (b : CountedParts S) (downs ups : Marks) (held : Option (List ℕ)) (late : Job → Bool) (picture : Picture) (r : Run S) (result : Result (Unit {0}) RunStop) → AreNamed downs_in r.events downs → AreNamed ups_in r.events ups
         → Goes codec head gives b held (next_picture codec (session_of head) late picture r) result → Comes codec head gives b downs ups held (next_picture codec (session_of head) late picture r) result
     next_comes b downs ups held late picture r (Ok x) ds us p = record {
       running = p;
@@ -196,7 +196,7 @@ module _ {S : Type 0} (codec : Coding S) (head : Head) where
     }
     next_comes b downs ups held late picture r (Err stop) ds us p = p
 
-    pub down_comes : (b : CountedParts S) (downs new ups : Marks) (held : Option (List ℕ)) (k : ℕ) (r : Run S) (result : Result (Unit {0}) Stop) → IsMarked k downs new → AreNamed downs_in r.events downs → AreNamed ups_in r.events ups
+    pub down_comes : (b : CountedParts S) (downs new ups : Marks) (held : Option (List ℕ)) (k : ℕ) (r : Run S) (result : Result (Unit {0}) RunStop) → IsMarked k downs new → AreNamed downs_in r.events downs → AreNamed ups_in r.events ups
         → Goes codec head gives b held (down codec (session_of head) k r) result → Comes codec head gives b new ups held (down codec (session_of head) k r) result
     down_comes b downs new ups held k r (Ok x) mark ds us p =
         let s : Run S = event (Delivers k) r in
@@ -207,7 +207,7 @@ module _ {S : Type 0} (codec : Coding S) (head : Head) where
         }
     down_comes b downs new ups held k r (Err stop) mark ds us p = p
 
-    pub up_comes : (b : CountedParts S) (downs ups new : Marks) (held : Option (List ℕ)) (k : ℕ) (r : Run S) (result : Result (Unit {0}) Stop) → IsMarked k ups new → AreNamed downs_in r.events downs → AreNamed ups_in r.events ups
+    pub up_comes : (b : CountedParts S) (downs ups new : Marks) (held : Option (List ℕ)) (k : ℕ) (r : Run S) (result : Result (Unit {0}) RunStop) → IsMarked k ups new → AreNamed downs_in r.events downs → AreNamed ups_in r.events ups
         → Goes codec head gives b held (up codec (session_of head) k r) result → Comes codec head gives b downs new held (up codec (session_of head) k r) result
     up_comes b downs ups new held k r (Ok x) mark ds us p = record {
       running = p;
@@ -216,7 +216,7 @@ module _ {S : Type 0} (codec : Coding S) (head : Head) where
     }
     up_comes b downs ups new held k r (Err stop) mark ds us p = p
 
-    pub wait_comes : (b : CountedParts S) (downs ups : Marks) (held : Option (List ℕ)) (time moment : ℕ) (r : Run S) (result : Result (Unit {0}) Stop) → moment ≡ min (2 ^ 64 - 1) (r.world.moment + time) → AreNamed downs_in r.events downs → AreNamed ups_in r.events ups
+    pub wait_comes : (b : CountedParts S) (downs ups : Marks) (held : Option (List ℕ)) (time moment : ℕ) (r : Run S) (result : Result (Unit {0}) RunStop) → moment ≡ min (2 ^ 64 - 1) (r.world.moment + time) → AreNamed downs_in r.events downs → AreNamed ups_in r.events ups
         → Goes codec head gives b held (event (Passes moment) r) result → Comes codec head gives b downs ups held (wait codec (session_of head) time r) result
     wait_comes b downs ups held time moment r (Ok x) e ds us p = record {
       running = subst (λ m. IsRunning codec head b held (event (Passes m) r)) e p;
@@ -225,7 +225,7 @@ module _ {S : Type 0} (codec : Coding S) (head : Head) where
     }
     wait_comes b downs ups held time moment r (Err stop) e ds us p = subst (λ m. Stopped codec head gives held (Passes m ∷ r.events) stop) e p
 
-    pub unless_comes : {X : Type 0} (b : CountedParts S) (downs ups : Marks) (held : Option (List ℕ)) (m : Marks) (step : ℕ → Run S → Run S) (k : ℕ) (r : Run S) (result : Result X Stop) → is_marked m k ≡ false → Comes codec head gives b downs ups held (step k r) result → Comes codec head gives b downs ups held (unless_marked m step k r) result
+    pub unless_comes : {X : Type 0} (b : CountedParts S) (downs ups : Marks) (held : Option (List ℕ)) (m : Marks) (step : ℕ → Run S → Run S) (k : ℕ) (r : Run S) (result : Result X RunStop) → is_marked m k ≡ false → Comes codec head gives b downs ups held (step k r) result → Comes codec head gives b downs ups held (unless_marked m step k r) result
     unless_comes b downs ups held m step k r result e p = rw e p
 
     pub already_comes : (b : CountedParts S) (downs ups : Marks) (held : Option (List ℕ)) (m : Marks) (step : ℕ → Run S → Run S) (k : ℕ) (r : Run S) → is_marked m k ≡ true → IsAt codec head b downs ups held r → IsAt codec head b downs ups held (unless_marked m step k r)
@@ -237,7 +237,7 @@ module _ {S : Type 0} (codec : Coding S) (head : Head) where
       pub here : IsAt codec head b downs ups held now
       pub walk : Walk codec (session_of head) step last at m now target
 
-    pub downs_exit : {X : Type 0} (last at : ℕ) (b new : CountedParts S) (downs ups downs' ups' : Marks) (held held' : Option (List ℕ)) (target : Run S) (result : Result X Stop) (stop : Stop) (left : Left (down codec (session_of head)) last at downs b downs ups held target) → at < last
+    pub downs_exit : {X : Type 0} (last at : ℕ) (b new : CountedParts S) (downs ups downs' ups' : Marks) (held held' : Option (List ℕ)) (target : Run S) (result : Result X RunStop) (stop : RunStop) (left : Left (down codec (session_of head)) last at downs b downs ups held target) → at < last
         → IsErrAnd result (λ e. e ≡ stop) → Stopped codec head gives held' (unless_marked downs (down codec (session_of head)) (at + 1) left.now).events stop → Comes codec head gives new downs' ups' held' target result
     downs_exit last at b new downs ups downs' ups' held held' target result stop left lt h p =
         let one : Run S = unless_marked downs (down codec (session_of head)) (at + 1) left.now in
@@ -246,7 +246,7 @@ module _ {S : Type 0} (codec : Coding S) (head : Head) where
         (downs_kept codec (session_of head) (λ s. Grows one s) (λ e s g. grows_event codec (session_of head) one e s g) (unmarked downs (at + 1) (last - (at + 1))) one (grows_none one)) in
         grown_exit new downs' ups' held' one target result stop grown h p
 
-    pub ups_exit : {X : Type 0} (last at : ℕ) (b new : CountedParts S) (downs ups downs' ups' : Marks) (held held' : Option (List ℕ)) (target : Run S) (result : Result X Stop) (stop : Stop) (left : Left (up codec (session_of head)) last at ups b downs ups held target) → at < last
+    pub ups_exit : {X : Type 0} (last at : ℕ) (b new : CountedParts S) (downs ups downs' ups' : Marks) (held held' : Option (List ℕ)) (target : Run S) (result : Result X RunStop) (stop : RunStop) (left : Left (up codec (session_of head)) last at ups b downs ups held target) → at < last
         → IsErrAnd result (λ e. e ≡ stop) → Stopped codec head gives held' (unless_marked ups (up codec (session_of head)) (at + 1) left.now).events stop → Comes codec head gives new downs' ups' held' target result
     ups_exit last at b new downs ups downs' ups' held held' target result stop left lt h p =
         let one : Run S = unless_marked ups (up codec (session_of head)) (at + 1) left.now in

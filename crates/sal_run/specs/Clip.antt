@@ -2,15 +2,14 @@
 use Rattle.std.specs.Prelude.{ℕ, ◌+◌, ◌/◌, min, List, length, take, Option, Some, None, nat_lt, nat_le, if◌then◌else◌}
 use Rattle.sal_base.specs.declared.picture.Picture.{Picture}
 use Rattle.sal_y4m.specs.declared.head.Head.{Head}
-use Rattle.sal_y4m.specs.declared.fault.Why.{Why}
-use Rattle.sal_y4m.specs.declared.fault.Why.TheVariants.{Form}
-use Rattle.sal_y4m.specs.Grammar.{picture_at, samples_of}
+use Rattle.sal_y4m.specs.declared.fault.Flaw.{Flaw}
+use Rattle.sal_y4m.specs.Grammar.{picture_at, picture_flaw, samples_of}
 use Rattle.sal_run.specs.Front.{front, is_empty}
 
 -- how a run ends, where nothing outside fails and there is memory
 pub data End : Type 0 where
   Done : End
-  BadInput : (place : ℕ) → (why : Why) → End
+  BadInput : (flaw : Flaw) → End
   BadScript : (line : ℕ) → End
   TooMany : End
   TooLong : End
@@ -42,7 +41,7 @@ pub record Clip : Type 0 where
 abbrev pub clip_of : Head → List Picture × List ℕ → Clip
 clip_of head found = record {
   pictures = take (most head) found.0;
-  fault = if nat_lt (most head) (length found.0) then Some (over head) else if is_empty found.1 then None else Some (BadInput 0 Form);
+  fault = if nat_lt (most head) (length found.0) then Some (over head) else if is_empty found.1 then None else Some (BadInput (picture_flaw found.1));
 }
 
 abbrev pub clip_at : Head → List ℕ → Clip

@@ -3,6 +3,7 @@ use Rattle.std.specs.Prelude.{◌≡◌, ◌⊎◌, ℕ, List, [], ◌∷◌, �
 use Rattle.sal_base.specs.declared.picture.Picture.{Picture}
 use Rattle.sal_codec.specs.Coding.{Coding}
 use Rattle.sal_y4m.specs.declared.head.Head.{Head}
+use Rattle.sal_y4m.specs.declared.fault.Flaw.{Flaw}
 use Rattle.sal_script.specs.declared.line.ScriptLine.TheVariants.{Rest}
 use Rattle.sal_script.specs.Numbered.{Numbered}
 use Rattle.sal_world.specs.World.{WorldEvent, Starts, after}
@@ -13,6 +14,7 @@ use Rattle.sal_run.specs.declared.end.Which.TheVariants.{Out, Journal, Pictures,
 use Rattle.sal_run.specs.declared.end.RunEnd.{RunEnd}
 use Rattle.sal_run.specs.declared.end.RunEnd.TheVariants as run
 use Rattle.sal_run.specs.Clip.{End, Done, BadInput, BadScript, TooMany, TooLong}
+use Rattle.sal_run.specs.Place.{IsPlaced}
 use Rattle.sal_run.specs.Summary.{summary_of}
 use Rattle.sal_run.specs.Loop.{session_of, out_text, clip_run}
 
@@ -63,19 +65,19 @@ module _ {S : Type 0} (codec : Coding S) (head : Head) (lines : List Numbered) w
   abbrev pub DiaryFailed : (DiaryFault → Bool) → DiaryFault → Option (List ℕ) → Option (List ℕ) → Type 0
   DiaryFailed gives fault i o = (gives fault ≡ true) × ToldBoth i o PartlyOrNot
 
-  -- what a run gives with a diary that gives these faults
-  abbrev pub RunGives : (DiaryFault → Bool) → RunEnd → Option (List ℕ) → Option (List ℕ) → Type 0
-  RunGives gives (run.Ok summary) i o = IfSome i (λ i. Ends Done i o × (summary ≡ summary_of (clip_run codec head i lines).0.world))
-  RunGives gives (run.BadInput place why) i o = IfSome i (λ i. Ends (BadInput place why) i o)
-  RunGives gives (run.BadScript line) i o = IfSome i (λ i. Ends (BadScript line) i o)
-  RunGives gives run.TooMany i o = IfSome i (λ i. Ends TooMany i o)
-  RunGives gives run.TooLong i o = IfSome i (λ i. Ends TooLong i o) ⊎ DiaryFailed gives diary.TooLong i o
-  RunGives gives run.ReadFault i o = ToldBoth i o UpToNext
-  RunGives gives (run.WriteFault Out) i o = ToldBoth i o Cut
-  RunGives gives (run.WriteFault Journal) i o = DiaryFailed gives diary.Failed i o
-  RunGives gives (run.WriteFault Pictures) i o = ⊥
-  RunGives gives (run.WriteFault Script) i o = ⊥
-  RunGives gives run.Memory i o = ToldBoth i o PartlyOrNot
+  -- what a run gives, after so many bytes of its input, with a diary that gives these faults
+  abbrev pub RunGives : (DiaryFault → Bool) → ℕ → RunEnd → Option (List ℕ) → Option (List ℕ) → Type 0
+  RunGives gives before (run.Ok summary) i o = IfSome i (λ i. Ends Done i o × (summary ≡ summary_of (clip_run codec head i lines).0.world))
+  RunGives gives before (run.BadInput place why) i o = IfSome i (λ i. (flaw : Flaw) × (Ends (BadInput flaw) i o × IsPlaced before i flaw place why))
+  RunGives gives before (run.BadScript line) i o = IfSome i (λ i. Ends (BadScript line) i o)
+  RunGives gives before run.TooMany i o = IfSome i (λ i. Ends TooMany i o)
+  RunGives gives before run.TooLong i o = IfSome i (λ i. Ends TooLong i o) ⊎ DiaryFailed gives diary.TooLong i o
+  RunGives gives before run.ReadFault i o = ToldBoth i o UpToNext
+  RunGives gives before (run.WriteFault Out) i o = ToldBoth i o Cut
+  RunGives gives before (run.WriteFault Journal) i o = DiaryFailed gives diary.Failed i o
+  RunGives gives before (run.WriteFault Pictures) i o = ⊥
+  RunGives gives before (run.WriteFault Script) i o = ⊥
+  RunGives gives before run.Memory i o = ToldBoth i o PartlyOrNot
 
   -- the world of the run is that after its events, and after any of them all promises of both ends hold
   pub record KeepsPromises (i : List ℕ) : Type 0 where

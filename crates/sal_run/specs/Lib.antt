@@ -1,5 +1,6 @@
 pub mod Front
 pub mod Clip
+pub mod Place
 pub mod Summary
 pub mod Loop
 pub mod Ends

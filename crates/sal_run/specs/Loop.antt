@@ -4,8 +4,7 @@ use Rattle.std.specs.List.{flat_map}
 use Rattle.sal_base.specs.declared.picture.Picture.{Picture}
 use Rattle.sal_codec.specs.Coding.{Coding}
 use Rattle.sal_y4m.specs.declared.head.Head.{Head}
-use Rattle.sal_y4m.specs.declared.fault.Why.TheVariants.{Form}
-use Rattle.sal_y4m.specs.Grammar.{header_at, head_text, picture_text}
+use Rattle.sal_y4m.specs.Grammar.{header_at, header_flaw, head_text, picture_text}
 use Rattle.sal_script.specs.declared.line.ScriptLine.{ScriptLine}
 use Rattle.sal_script.specs.declared.line.ScriptLine.TheVariants.{Next, NextLate, Rest}
 use Rattle.sal_script.specs.Numbered.{Numbered}
@@ -66,16 +65,16 @@ module _ {S : Type 0} (codec : Coding S) where
   clip_run head bytes lines = let clip = clip_at head bytes in ended codec (session_of head) clip.fault lines (begun clip.pictures)
 
   -- the same of a whole input, which may begin with no header
-  abbrev pub input_end : Option (Head × List ℕ) → List Numbered → End
-  input_end None lines = BadInput 0 Form
-  input_end (Some clip) lines = (clip_run clip.0 clip.1 lines).1
+  abbrev pub input_end : List ℕ → Option (Head × List ℕ) → List Numbered → End
+  input_end input None lines = BadInput (header_flaw input)
+  input_end input (Some clip) lines = (clip_run clip.0 clip.1 lines).1
 
   abbrev pub input_out : Option (Head × List ℕ) → List Numbered → List ℕ
   input_out None lines = []
   input_out (Some clip) lines = out_text clip.0 (clip_run clip.0 clip.1 lines).0.world
 
   abbrev pub script_end : List ℕ → Result (List Numbered) ℕ → End
-  script_end input (Ok lines) = input_end (header_at input) lines
+  script_end input (Ok lines) = input_end input (header_at input) lines
   script_end input (Err number) = BadScript number
 
   abbrev pub script_out : List ℕ → Result (List Numbered) ℕ → List ℕ

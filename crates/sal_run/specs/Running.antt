@@ -12,8 +12,8 @@ use Rattle.sal_world.specs.World.{WorldEvent, after}
 use Rattle.sal_world.specs.Stands.{Stands}
 use Rattle.sal_world.specs.Script.{Run, downs_in, ups_in}
 use Rattle.sal_world.specs.declared.diary.DiaryFault.{DiaryFault}
-use Rattle.sal_run.specs.declared.stop.Stop.{Stop}
-use Rattle.sal_run.specs.declared.stop.Stop.TheVariants.{Out, Diary, Memory}
+use Rattle.sal_run.specs.declared.stop.RunStop.{RunStop}
+use Rattle.sal_run.specs.declared.stop.RunStop.TheVariants.{Out, Diary, Memory}
 use Rattle.sal_run.specs.Loop.{session_of, out_text}
 use Rattle.sal_run.specs.Marks.{Marks}
 use Rattle.sal_run.specs.Named.{AreNamed}
@@ -24,20 +24,20 @@ text_of (Show number picture) = picture_text picture
 text_of _ = []
 
 -- a text was written, or a front of it, or the diary gave a fault before
-abbrev pub Shows : (DiaryFault → Bool) → Option (List ℕ) → Option (List ℕ) → List ℕ → Result (Unit {0}) Stop → Type 0
+abbrev pub Shows : (DiaryFault → Bool) → Option (List ℕ) → Option (List ℕ) → List ℕ → Result (Unit {0}) RunStop → Type 0
 Shows gives old new text (Ok x) = Appends old new text
 Shows gives old new text (Err Out) = (n : ℕ) × (n ≤ length text) × Appends old new (take n text)
 Shows gives old new text (Err (Diary fault)) = (gives fault ≡ true) × (new ≡ old)
 Shows gives old new text (Err _) = ⊥
 
 -- a text was written, or a front of it
-abbrev pub Opened : Option (List ℕ) → Option (List ℕ) → List ℕ → Result (Unit {0}) Stop → Type 0
+abbrev pub Opened : Option (List ℕ) → Option (List ℕ) → List ℕ → Result (Unit {0}) RunStop → Type 0
 Opened old new text (Ok x) = Appends old new text
 Opened old new text (Err Out) = (n : ℕ) × (n ≤ length text) × Appends old new (take n text)
 Opened old new text (Err _) = ⊥
 
 -- a line was given, or this is the fault that the diary gave
-abbrev pub IsNoted : (DiaryFault → Bool) → Result (Unit {0}) Stop → Type 0
+abbrev pub IsNoted : (DiaryFault → Bool) → Result (Unit {0}) RunStop → Type 0
 IsNoted gives (Ok x) = Unit {0}
 IsNoted gives (Err (Diary fault)) = gives fault ≡ true
 IsNoted gives (Err _) = ⊥
@@ -59,14 +59,14 @@ module _ {S : Type 0} (codec : Coding S) (head : Head) where
   CutOf events o = (n : ℕ) × ((whole : List ℕ) × PartlyOf events whole × (o ≡ take n whole))
 
   -- how a step stops that these events are of: at want of memory, at a fault of the diary or at one of the output
-  abbrev pub Stopped : (DiaryFault → Bool) → Option (List ℕ) → List WorldEvent → Stop → Type 0
+  abbrev pub Stopped : (DiaryFault → Bool) → Option (List ℕ) → List WorldEvent → RunStop → Type 0
   Stopped gives held events Out = IfSome held (CutOf events)
   Stopped gives held events (Diary fault) = (gives fault ≡ true) × IfSome held (PartlyOf events)
   Stopped gives held events Memory = IfSome held (PartlyOf events)
   Stopped gives held events _ = ⊥
 
   -- a step made this of a run, or stopped
-  abbrev pub Goes : {X : Type 0} → (DiaryFault → Bool) → CountedParts S → Option (List ℕ) → Run S → Result X Stop → Type 0
+  abbrev pub Goes : {X : Type 0} → (DiaryFault → Bool) → CountedParts S → Option (List ℕ) → Run S → Result X RunStop → Type 0
   Goes gives b held r (Ok x) = IsRunning b held r
   Goes gives b held r (Err stop) = Stopped gives held r.events stop
 
@@ -76,6 +76,6 @@ module _ {S : Type 0} (codec : Coding S) (head : Head) where
     pub downs_are : AreNamed downs_in r.events downs
     pub ups_are : AreNamed ups_in r.events ups
 
-  abbrev pub Comes : {X : Type 0} → (DiaryFault → Bool) → CountedParts S → Marks → Marks → Option (List ℕ) → Run S → Result X Stop → Type 0
+  abbrev pub Comes : {X : Type 0} → (DiaryFault → Bool) → CountedParts S → Marks → Marks → Option (List ℕ) → Run S → Result X RunStop → Type 0
   Comes gives b downs ups held r (Ok x) = IsAt b downs ups held r
   Comes gives b downs ups held r (Err stop) = Stopped gives held r.events stop

@@ -2,7 +2,7 @@
 use Rattle.std.specs.Prelude.{ℕ, ◌-◌, ◌^◌, min, Bool, List, length, filter, filter_map, Option, Some, None, ◌==◌}
 use Rattle.sal_sender.specs.declared.choice.Choice.{Choice}
 use Rattle.sal_sender.specs.declared.answers.Chosen.TheVariants.{Nothing}
-use Rattle.sal_sender.specs.Past.{Past, Call, Choose, pictures, choices, datagrams}
+use Rattle.sal_sender.specs.Past.{Past, SenderCall, Choose, pictures, choices, datagrams}
 use Rattle.sal_receiver.specs.Past.{shown}
 use Rattle.sal_world.specs.World.{WorldPast}
 use Rattle.sal_run.specs.declared.end.Summary.{Summary}
@@ -12,7 +12,7 @@ abbrev pub counted : ℕ → ℕ
 counted n = min (2 ^ 32 - 1) n
 
 -- a choice of nothing, with its budget
-abbrev pub nothing_in : Call → Option ℕ
+abbrev pub nothing_in : SenderCall → Option ℕ
 nothing_in (Choose moment (Nothing budget sizes)) = Some budget
 nothing_in _ = None
 

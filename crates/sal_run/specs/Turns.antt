@@ -8,7 +8,7 @@ use Rattle.sal_sender.specs.Jobs.{Job}
 use Rattle.sal_sender.specs.OneThread.{Session}
 use Rattle.sal_sender.specs.Choosing.{is_fine, first_in}
 use Rattle.sal_sender.specs.Answers.{waiting_jobs}
-use Rattle.sal_receiver.specs.Ready.{take_answer as ready_answer}
+use Rattle.sal_receiver.specs.Ready.{ready_answer}
 use Rattle.sal_world.specs.World.{TakesJob, Reports, TakesReady, Decodes}
 use Rattle.sal_world.specs.Script.{Run, gives, with_event, next_picture, down_all, up_all, wait}
 

@@ -13,7 +13,7 @@ ghost use Rattle.sal_run.specs.Loop.{session_of};
 ghost use Rattle.sal_run.specs.Counts.{no_counts, with_next, with_choice, with_done, summary_with};
 
 use crate::end::Summary;
-use crate::stop::Stop;
+use crate::stop::RunStop;
 use sal_codec::Codec;
 use sal_receiver::Done;
 use sal_sender::{JobRole, Next};
@@ -98,18 +98,18 @@ impl Counts {
 
 impl<C: Codec> Counted<C> {
     /// A session in which nothing happened yet.
-    pub(crate) fn new(alloc: Global, codec: C, head: Head) -> Result<Counted<C>, Stop>
+    pub(crate) fn new(alloc: Global, codec: C, head: Head) -> Result<Counted<C>, RunStop>
         requires { IsHead head }
         ensures stands { IfOk result (λ w. Stands C.coding (session_of head) w.world []) }
         ensures counts { IfOk result (λ w. w.counts ≡ no_counts) }
-        ensures memory { IfErr result (λ stop. stop ≡ Stop.Memory) }
+        ensures memory { IfErr result (λ stop. stop ≡ RunStop.Memory) }
     {
         match World::new(alloc, codec, head) {
             Ok(world) => Ok(Counted {
                 world,
                 counts: Counts::none(),
             }),
-            Err(_) => Err(Stop::Memory),
+            Err(_) => Err(RunStop::Memory),
         }
     }
 

@@ -6,9 +6,10 @@ ghost use Rattle.sal_codec.specs.Coding.{HasSides};
 ghost use Rattle.sal_io.specs.Calls.{HasCause};
 ghost use Rattle.sal_y4m.specs.Grammar.{samples_of};
 ghost use Rattle.sal_run.specs.Clip.{fitting, most};
+ghost use Rattle.sal_run.specs.Place.{Carries};
 ghost use Rattle.sal_run.specs.Input.{TakeGives, FinishGives, IsOverStop};
 
-use crate::stop::{Stop, stop_of};
+use crate::stop::{RunStop, stop_of};
 use sal_base::Picture;
 use sal_io::Source;
 use sal_y4m::{Head, Reader};
@@ -53,19 +54,19 @@ pub(crate) fn most(head: Head) -> u32
 }
 
 /// Why a run stops that comes to one picture more.
-fn over(head: Head) -> Stop
+fn over(head: Head) -> RunStop
     requires { AreSides head.width head.height }
     ensures { IsOverStop head result }
 {
     if MOST_PICTURES <= fitting(head) {
-        Stop::TooMany
+        RunStop::TooMany
     } else {
-        Stop::TooLong
+        RunStop::TooLong
     }
 }
 
 /// Counts a picture, if there is room for it.
-fn admit(head: Head, picture: Picture, feed: &mut Feed) -> Result<Option<Picture>, Stop>
+fn admit(head: Head, picture: Picture, feed: &mut Feed) -> Result<Option<Picture>, RunStop>
     requires { AreSides head.width head.height }
     ensures found { IfOk result (λ found. found ≡ Some picture) }
     ensures room { OnOk result (feed.new.room + 1 ≡ feed.old.room) }
@@ -84,13 +85,14 @@ pub(crate) fn take<S: Source>(
     alloc: Global,
     pictures: &mut Reader<S>,
     feed: &mut Feed,
-) -> Result<Option<Picture>, Stop>
+) -> Result<Option<Picture>, RunStop>
     requires fresh { pictures.old.kept ≡ None }
     requires sides { AreSides pictures.old.head.width pictures.old.head.height }
-    ensures told { TakeGives pictures.old.head feed.old.room (S.left pictures.old.source) (S.left pictures.new.source) result }
+    ensures told { TakeGives pictures.old.head pictures.old.place feed.old.room (S.left pictures.old.source) (S.left pictures.new.source) result }
+    ensures places { OnOk result (Carries pictures.old.place (S.left pictures.old.source) pictures.new.place (S.left pictures.new.source)) }
     ensures room { IfOk result (λ found. IfSome found (λ p. feed.new.room + 1 ≡ feed.old.room)) }
     ensures size { IfOk result (λ found. IfSome found (HasSides pictures.old.head.width pictures.old.head.height)) }
-    ensures cause { HasCause (Err Stop.ReadFault) (S.faults pictures.old.source) (S.faults pictures.new.source) result }
+    ensures cause { HasCause (Err RunStop.ReadFault) (S.faults pictures.old.source) (S.faults pictures.new.source) result }
     ensures fresh { OnOk result (pictures.new.kept ≡ None) }
     ensures head { pictures.new.head ≡ pictures.old.head }
     ensures name { S.name pictures.new.source ≡ S.name pictures.old.source }
@@ -109,11 +111,11 @@ pub(crate) fn finish<S: Source>(
     alloc: Global,
     pictures: &mut Reader<S>,
     feed: &mut Feed,
-) -> Result<(), Stop>
+) -> Result<(), RunStop>
     requires fresh { pictures.old.kept ≡ None }
     requires sides { AreSides pictures.old.head.width pictures.old.head.height }
-    ensures told { FinishGives pictures.old.head feed.old.room (S.left pictures.old.source) (S.left pictures.new.source) result }
-    ensures cause { HasCause (Err Stop.ReadFault) (S.faults pictures.old.source) (S.faults pictures.new.source) result }
+    ensures told { FinishGives pictures.old.head pictures.old.place feed.old.room (S.left pictures.old.source) (S.left pictures.new.source) result }
+    ensures cause { HasCause (Err RunStop.ReadFault) (S.faults pictures.old.source) (S.faults pictures.new.source) result }
     ensures name { S.name pictures.new.source ≡ S.name pictures.old.source }
     ensures had { S.had pictures.new.source ≡ S.had pictures.old.source }
     ensures tells { is_some (S.left pictures.new.source) ≡ is_some (S.left pictures.old.source) }

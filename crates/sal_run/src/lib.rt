@@ -6,7 +6,6 @@ mod end;
 mod events;
 mod input;
 mod laws;
-mod lines;
 mod named;
 mod play;
 mod run;

@@ -4,20 +4,20 @@ ghost use Rattle.std.specs.Prelude.{◌≡◌, ◌<◌, [], ℕ, length, OnOk, I
 ghost use Rattle.sal_run.specs.Marks.{is_marked};
 ghost use Rattle.sal_run.specs.Named.{IsMarked};
 
-use crate::stop::Stop;
+use crate::stop::RunStop;
 use std::alloc::Global;
 use std::marker::Model;
 
 /// Which numbers, from 1, were named.
 #[derive(Drop)]
-pub(crate) struct Named {
+pub(crate) struct NamedNumbers {
     /// A mark by number.
     marks: Vec<bool>,
     /// How many of the first numbers are all marked, so that they aren't looked at again.
     known: u64,
 }
 
-impl Model for Named {
+impl Model for NamedNumbers {
     ghost use Rattle.sal_run.specs.Marks.{Marks};
 
     ghost Value = { Marks };
@@ -25,12 +25,12 @@ impl Model for Named {
     ghost view = { λ n. record { marks = n.marks.items; known = n.known } };
 }
 
-impl Named {
+impl NamedNumbers {
     /// No number.
-    pub(crate) fn new(alloc: Global) -> Named
+    pub(crate) fn new(alloc: Global) -> NamedNumbers
         ensures { result ≡ record { marks = []; known = 0 } }
     {
-        Named {
+        NamedNumbers {
             marks: Vec::new(alloc),
             known: 0,
         }
@@ -54,25 +54,25 @@ impl Named {
     }
 
     /// Makes room for the mark of a number.
-    fn make_room(&mut self, number: u64) -> Result<(), Stop>
+    fn make_room(&mut self, number: u64) -> Result<(), RunStop>
         ensures same { (k : ℕ) → is_marked self.new k ≡ is_marked self.old k }
         ensures known { self.new.known ≡ self.old.known }
         ensures room { OnOk result (number < length self.new.marks) }
-        ensures memory { IfErr result (λ stop. stop ≡ Stop.Memory) }
+        ensures memory { IfErr result (λ stop. stop ≡ RunStop.Memory) }
     {
         let Some(end) = (number as usize).checked_add(1) else {
-            return Err(Stop::Memory);
+            return Err(RunStop::Memory);
         };
         if self.marks.len() < end && self.marks.resize(end, false).is_err() {
-            return Err(Stop::Memory);
+            return Err(RunStop::Memory);
         }
         Ok(())
     }
 
     /// Says that a number was named.
-    pub(crate) fn mark(&mut self, number: u64) -> Result<(), Stop>
+    pub(crate) fn mark(&mut self, number: u64) -> Result<(), RunStop>
         ensures marked { OnOk result (IsMarked number self.old self.new) }
-        ensures memory { IfErr result (λ stop. stop ≡ Stop.Memory) }
+        ensures memory { IfErr result (λ stop. stop ≡ RunStop.Memory) }
     {
         self.make_room(number)?;
         self.marks[number as usize] = true;

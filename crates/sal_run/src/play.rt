@@ -16,9 +16,9 @@ ghost use Rattle.sal_run.specs.Walk.{unless_marked};
 
 use crate::counted::Counted;
 use crate::events::{deliver, hear, pass};
-use crate::named::Named;
-use crate::stage::Stage;
-use crate::stop::Stop;
+use crate::named::NamedNumbers;
+use crate::stage::BothEnds;
+use crate::stop::RunStop;
 use sal_base::Picture;
 use sal_codec::Codec;
 use sal_io::Sink;
@@ -29,30 +29,30 @@ use std::alloc::Global;
 /// Both ends, and which datagrams and acknowledgements came by number.
 #[derive(Drop)]
 pub(crate) struct Play<C: Codec> {
-    pub stage: Stage<C>,
-    pub downs: Named,
-    pub ups: Named,
+    pub stage: BothEnds<C>,
+    pub downs: NamedNumbers,
+    pub ups: NamedNumbers,
 }
 
 impl<C: Codec> Play<C> {
     /// A session in which nothing happened yet.
-    pub(crate) fn new(alloc: Global, codec: C, head: Head) -> Result<Play<C>, Stop>
+    pub(crate) fn new(alloc: Global, codec: C, head: Head) -> Result<Play<C>, RunStop>
         requires { IsHead head }
         ensures stands { IfOk result (λ p. Stands C.coding (session_of head) p.stage.world.world []) }
         ensures counts { IfOk result (λ p. p.stage.world.counts ≡ no_counts) }
         ensures downs { IfOk result (λ p. p.downs ≡ record { marks = []; known = 0 }) }
         ensures ups { IfOk result (λ p. p.ups ≡ record { marks = []; known = 0 }) }
-        ensures memory { IfErr result (λ stop. stop ≡ Stop.Memory) }
+        ensures memory { IfErr result (λ stop. stop ≡ RunStop.Memory) }
     {
         let world = Counted::new(alloc, codec, head)?;
         Ok(Play {
-            stage: Stage {
+            stage: BothEnds {
                 alloc,
                 codec,
                 world,
             },
-            downs: Named::new(alloc),
-            ups: Named::new(alloc),
+            downs: NamedNumbers::new(alloc),
+            ups: NamedNumbers::new(alloc),
         })
     }
 
@@ -63,11 +63,11 @@ impl<C: Codec> Play<C> {
         late: bool,
         picture: Picture,
         journal: &mut J,
-    ) -> Result<(), Stop>
+    ) -> Result<(), RunStop>
         requires runs { (head : HeadData) × ((r : Run C.State) × ((held : Option (List ℕ)) × (IsAt C.coding head self.old.stage.world self.old.downs self.old.ups held r × HasSize (session_of head) picture))) }
         ensures comes { (head : HeadData) (r : Run C.State) (held : Option (List ℕ)) → IsAt C.coding head self.old.stage.world self.old.downs self.old.ups held r → HasSize (session_of head) picture → Comes C.coding head J.gives self.new.stage.world self.new.downs self.new.ups held (next_picture C.coding (session_of head) (is_late late) picture r) result }
-        ensures journal_cause { HasCause (Err (Stop.Diary DiaryFault.Failed)) (J.faults journal.old) (J.faults journal.new) result }
-        ensures never { result ≢ Err Stop.Out }
+        ensures journal_cause { HasCause (Err (RunStop.Diary DiaryFault.Failed)) (J.faults journal.old) (J.faults journal.new) result }
+        ensures never { result ≢ Err RunStop.Out }
     {
         self.stage.next_picture(number, late, picture, journal)
     }
@@ -78,14 +78,14 @@ impl<C: Codec> Play<C> {
         number: u32,
         out: &mut Writer<K>,
         journal: &mut J,
-    ) -> Result<(), Stop>
+    ) -> Result<(), RunStop>
         requires open { out.old.failed ≡ false }
         requires runs { (head : HeadData) × ((r : Run C.State) × IsAt C.coding head self.old.stage.world self.old.downs self.old.ups (K.held out.old.sink) r) }
         ensures comes { (head : HeadData) (r : Run C.State) → IsAt C.coding head self.old.stage.world self.old.downs self.old.ups (K.held out.old.sink) r → Comes C.coding head J.gives self.new.stage.world self.new.downs self.new.ups (K.held out.new.sink) (down C.coding (session_of head) number r) result }
         ensures marked { OnOk result (IsMarked number self.old.downs self.new.downs) }
         ensures open { OnOk result (out.new.failed ≡ false) }
-        ensures out_cause { HasCause (Err Stop.Out) (K.faults out.old.sink) (K.faults out.new.sink) result }
-        ensures journal_cause { HasCause (Err (Stop.Diary DiaryFault.Failed)) (J.faults journal.old) (J.faults journal.new) result }
+        ensures out_cause { HasCause (Err RunStop.Out) (K.faults out.old.sink) (K.faults out.new.sink) result }
+        ensures journal_cause { HasCause (Err (RunStop.Diary DiaryFault.Failed)) (J.faults journal.old) (J.faults journal.new) result }
         ensures out_name { K.name out.new.sink ≡ K.name out.old.sink }
         ensures out_tells { is_some (K.held out.new.sink) ≡ is_some (K.held out.old.sink) }
     {
@@ -95,23 +95,23 @@ impl<C: Codec> Play<C> {
     }
 
     /// The acknowledgement of a number comes back to the sender.
-    pub(crate) fn up<J: Diary>(&mut self, number: u64, journal: &mut J) -> Result<(), Stop>
+    pub(crate) fn up<J: Diary>(&mut self, number: u64, journal: &mut J) -> Result<(), RunStop>
         requires runs { (head : HeadData) × ((r : Run C.State) × ((held : Option (List ℕ)) × IsAt C.coding head self.old.stage.world self.old.downs self.old.ups held r)) }
         ensures comes { (head : HeadData) (r : Run C.State) (held : Option (List ℕ)) → IsAt C.coding head self.old.stage.world self.old.downs self.old.ups held r → Comes C.coding head J.gives self.new.stage.world self.new.downs self.new.ups held (up C.coding (session_of head) number r) result }
         ensures marked { OnOk result (IsMarked number self.old.ups self.new.ups) }
-        ensures journal_cause { HasCause (Err (Stop.Diary DiaryFault.Failed)) (J.faults journal.old) (J.faults journal.new) result }
-        ensures never { result ≢ Err Stop.Out }
+        ensures journal_cause { HasCause (Err (RunStop.Diary DiaryFault.Failed)) (J.faults journal.old) (J.faults journal.new) result }
+        ensures never { result ≢ Err RunStop.Out }
     {
         self.ups.mark(number)?;
         hear(&mut self.stage.world, number, journal)
     }
 
     /// So many microseconds pass.
-    pub(crate) fn wait<J: Diary>(&mut self, time: u64, journal: &mut J) -> Result<(), Stop>
+    pub(crate) fn wait<J: Diary>(&mut self, time: u64, journal: &mut J) -> Result<(), RunStop>
         requires runs { (head : HeadData) × ((r : Run C.State) × ((held : Option (List ℕ)) × IsAt C.coding head self.old.stage.world self.old.downs self.old.ups held r)) }
         ensures comes { (head : HeadData) (r : Run C.State) (held : Option (List ℕ)) → IsAt C.coding head self.old.stage.world self.old.downs self.old.ups held r → Comes C.coding head J.gives self.new.stage.world self.new.downs self.new.ups held (wait C.coding (session_of head) time r) result }
-        ensures journal_cause { HasCause (Err (Stop.Diary DiaryFault.Failed)) (J.faults journal.old) (J.faults journal.new) result }
-        ensures never { result ≢ Err Stop.Out }
+        ensures journal_cause { HasCause (Err (RunStop.Diary DiaryFault.Failed)) (J.faults journal.old) (J.faults journal.new) result }
+        ensures never { result ≢ Err RunStop.Out }
     {
         let moment = self.stage.world.moment().saturating_add(time);
         pass(&mut self.stage.world, moment, journal)
@@ -123,14 +123,14 @@ impl<C: Codec> Play<C> {
         number: u32,
         out: &mut Writer<K>,
         journal: &mut J,
-    ) -> Result<(), Stop>
+    ) -> Result<(), RunStop>
         requires open { out.old.failed ≡ false }
         requires runs { (head : HeadData) × ((r : Run C.State) × IsAt C.coding head self.old.stage.world self.old.downs self.old.ups (K.held out.old.sink) r) }
         ensures comes { (head : HeadData) (r : Run C.State) → IsAt C.coding head self.old.stage.world self.old.downs self.old.ups (K.held out.old.sink) r → Comes C.coding head J.gives self.new.stage.world self.new.downs self.new.ups (K.held out.new.sink) (unless_marked self.old.downs (down C.coding (session_of head)) number r) result }
         ensures marked { OnOk result (IsMarked number self.old.downs self.new.downs) }
         ensures open { OnOk result (out.new.failed ≡ false) }
-        ensures out_cause { HasCause (Err Stop.Out) (K.faults out.old.sink) (K.faults out.new.sink) result }
-        ensures journal_cause { HasCause (Err (Stop.Diary DiaryFault.Failed)) (J.faults journal.old) (J.faults journal.new) result }
+        ensures out_cause { HasCause (Err RunStop.Out) (K.faults out.old.sink) (K.faults out.new.sink) result }
+        ensures journal_cause { HasCause (Err (RunStop.Diary DiaryFault.Failed)) (J.faults journal.old) (J.faults journal.new) result }
         ensures out_name { K.name out.new.sink ≡ K.name out.old.sink }
         ensures out_tells { is_some (K.held out.new.sink) ≡ is_some (K.held out.old.sink) }
     {
@@ -145,13 +145,13 @@ impl<C: Codec> Play<C> {
         &mut self,
         out: &mut Writer<K>,
         journal: &mut J,
-    ) -> Result<(), Stop>
+    ) -> Result<(), RunStop>
         requires open { out.old.failed ≡ false }
         requires runs { (head : HeadData) × ((r : Run C.State) × IsAt C.coding head self.old.stage.world self.old.downs self.old.ups (K.held out.old.sink) r) }
         ensures comes { (head : HeadData) (r : Run C.State) → IsAt C.coding head self.old.stage.world self.old.downs self.old.ups (K.held out.old.sink) r → Comes C.coding head J.gives self.new.stage.world self.new.downs self.new.ups (K.held out.new.sink) (down_all C.coding (session_of head) r) result }
         ensures open { OnOk result (out.new.failed ≡ false) }
-        ensures out_cause { HasCause (Err Stop.Out) (K.faults out.old.sink) (K.faults out.new.sink) result }
-        ensures journal_cause { HasCause (Err (Stop.Diary DiaryFault.Failed)) (J.faults journal.old) (J.faults journal.new) result }
+        ensures out_cause { HasCause (Err RunStop.Out) (K.faults out.old.sink) (K.faults out.new.sink) result }
+        ensures journal_cause { HasCause (Err (RunStop.Diary DiaryFault.Failed)) (J.faults journal.old) (J.faults journal.new) result }
         ensures out_name { K.name out.new.sink ≡ K.name out.old.sink }
         ensures out_tells { is_some (K.held out.new.sink) ≡ is_some (K.held out.old.sink) }
     {
@@ -164,12 +164,12 @@ impl<C: Codec> Play<C> {
     }
 
     /// The acknowledgement of a number comes, unless it was named before.
-    fn up_unless<J: Diary>(&mut self, number: u64, journal: &mut J) -> Result<(), Stop>
+    fn up_unless<J: Diary>(&mut self, number: u64, journal: &mut J) -> Result<(), RunStop>
         requires runs { (head : HeadData) × ((r : Run C.State) × ((held : Option (List ℕ)) × IsAt C.coding head self.old.stage.world self.old.downs self.old.ups held r)) }
         ensures comes { (head : HeadData) (r : Run C.State) (held : Option (List ℕ)) → IsAt C.coding head self.old.stage.world self.old.downs self.old.ups held r → Comes C.coding head J.gives self.new.stage.world self.new.downs self.new.ups held (unless_marked self.old.ups (up C.coding (session_of head)) number r) result }
         ensures marked { OnOk result (IsMarked number self.old.ups self.new.ups) }
-        ensures journal_cause { HasCause (Err (Stop.Diary DiaryFault.Failed)) (J.faults journal.old) (J.faults journal.new) result }
-        ensures never { result ≢ Err Stop.Out }
+        ensures journal_cause { HasCause (Err (RunStop.Diary DiaryFault.Failed)) (J.faults journal.old) (J.faults journal.new) result }
+        ensures never { result ≢ Err RunStop.Out }
     {
         if self.ups.has(number) {
             return Ok(());
@@ -178,11 +178,11 @@ impl<C: Codec> Play<C> {
     }
 
     /// Each acknowledgement that wasn't named comes back to the sender.
-    pub(crate) fn up_all<J: Diary>(&mut self, journal: &mut J) -> Result<(), Stop>
+    pub(crate) fn up_all<J: Diary>(&mut self, journal: &mut J) -> Result<(), RunStop>
         requires runs { (head : HeadData) × ((r : Run C.State) × ((held : Option (List ℕ)) × IsAt C.coding head self.old.stage.world self.old.downs self.old.ups held r)) }
         ensures comes { (head : HeadData) (r : Run C.State) (held : Option (List ℕ)) → IsAt C.coding head self.old.stage.world self.old.downs self.old.ups held r → Comes C.coding head J.gives self.new.stage.world self.new.downs self.new.ups held (up_all C.coding (session_of head) r) result }
-        ensures journal_cause { HasCause (Err (Stop.Diary DiaryFault.Failed)) (J.faults journal.old) (J.faults journal.new) result }
-        ensures never { result ≢ Err Stop.Out }
+        ensures journal_cause { HasCause (Err (RunStop.Diary DiaryFault.Failed)) (J.faults journal.old) (J.faults journal.new) result }
+        ensures never { result ≢ Err RunStop.Out }
     {
         let last = self.stage.world.acks();
         for at in self.ups.known()..last {
@@ -199,13 +199,13 @@ impl<C: Codec> Play<C> {
         picture: Picture,
         out: &mut Writer<K>,
         journal: &mut J,
-    ) -> Result<(), Stop>
+    ) -> Result<(), RunStop>
         requires open { out.old.failed ≡ false }
         requires runs { (head : HeadData) × ((r : Run C.State) × (IsAt C.coding head self.old.stage.world self.old.downs self.old.ups (K.held out.old.sink) r × HasSize (session_of head) picture)) }
         ensures comes { (head : HeadData) (r : Run C.State) → IsAt C.coding head self.old.stage.world self.old.downs self.old.ups (K.held out.old.sink) r → HasSize (session_of head) picture → Comes C.coding head J.gives self.new.stage.world self.new.downs self.new.ups (K.held out.new.sink) (exchange C.coding (session_of head) picture r) result }
         ensures open { OnOk result (out.new.failed ≡ false) }
-        ensures out_cause { HasCause (Err Stop.Out) (K.faults out.old.sink) (K.faults out.new.sink) result }
-        ensures journal_cause { HasCause (Err (Stop.Diary DiaryFault.Failed)) (J.faults journal.old) (J.faults journal.new) result }
+        ensures out_cause { HasCause (Err RunStop.Out) (K.faults out.old.sink) (K.faults out.new.sink) result }
+        ensures journal_cause { HasCause (Err (RunStop.Diary DiaryFault.Failed)) (J.faults journal.old) (J.faults journal.new) result }
         ensures out_name { K.name out.new.sink ≡ K.name out.old.sink }
         ensures out_tells { is_some (K.held out.new.sink) ≡ is_some (K.held out.old.sink) }
     {

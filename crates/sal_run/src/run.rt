@@ -3,7 +3,7 @@
 ghost use Rattle.std.specs.Prelude.{is_some, ◌≡◌, ◌≢◌, ◌≤◌, length, [], ℕ, List, Option, false, None, Ok, Err, IfSome, IfOk, IfErr, OnOk};
 ghost use Rattle.sal_io.specs.Calls.{HasCause};
 ghost use Rattle.sal_y4m.specs.declared.head.Head.{Head as HeadData};
-ghost use Rattle.sal_y4m.specs.Grammar.{IsNarrow, head_text};
+ghost use Rattle.sal_y4m.specs.Grammar.{head_text};
 ghost use Rattle.sal_script.specs.Numbered.{Numbered};
 ghost use Rattle.sal_y4m.specs.Head.{IsHead};
 ghost use Rattle.sal_world.specs.Script.{begun};
@@ -17,26 +17,26 @@ use crate::input::{Feed, finish, most};
 use crate::laws::every_run_keeps_its_promises;
 use crate::play::Play;
 use crate::script::lines;
-use crate::stop::{Stop, end_of};
+use crate::stop::{RunStop, end_of};
 use sal_codec::Codec;
 use sal_io::{Sink, Source};
 use sal_script::Script;
-use sal_world::{Diary, DiaryFault, Line};
+use sal_world::{Diary, DiaryFault, Line, rate_fits};
 use sal_y4m::{Head, Reader, Writer};
 use std::alloc::Global;
 
 /// Writes the header.
-fn open<K: Sink>(out: &mut Writer<K>, head: Head) -> Result<(), Stop>
+fn open<K: Sink>(out: &mut Writer<K>, head: Head) -> Result<(), RunStop>
     requires open { out.old.failed ≡ false }
     ensures opened { Opened (K.held out.old.sink) (K.held out.new.sink) (head_text head) result }
     ensures open { OnOk result (out.new.failed ≡ false) }
-    ensures out_cause { HasCause (Err Stop.Out) (K.faults out.old.sink) (K.faults out.new.sink) result }
+    ensures out_cause { HasCause (Err RunStop.Out) (K.faults out.old.sink) (K.faults out.new.sink) result }
     ensures out_name { K.name out.new.sink ≡ K.name out.old.sink }
     ensures out_tells { is_some (K.held out.new.sink) ≡ is_some (K.held out.old.sink) }
 {
     match out.open(head) {
         Ok(()) => Ok(()),
-        Err(_) => Err(Stop::Out),
+        Err(_) => Err(RunStop::Out),
     }
 }
 
@@ -47,16 +47,16 @@ fn begin<C: Codec, K: Sink, J: Diary>(
     head: Head,
     out: &mut Writer<K>,
     journal: &mut J,
-) -> Result<Play<C>, Stop>
+) -> Result<Play<C>, RunStop>
     requires head { IsHead head }
     requires open { out.old.failed ≡ false }
     requires nothing { IfSome (K.held out.old.sink) (λ xs. xs ≡ []) }
     ensures begun { IfOk result (λ p. IsAt C.coding head p.stage.world p.downs p.ups (K.held out.new.sink) (begun [])) }
-    ensures stopped { (script : List Numbered) (i : Option (List ℕ)) → IfErr result (λ stop. RunGives C.coding head script J.gives (end_of stop) i (K.held out.new.sink)) }
+    ensures stopped { (script : List Numbered) (before : ℕ) (i : Option (List ℕ)) → IfErr result (λ stop. RunGives C.coding head script J.gives before (end_of stop) i (K.held out.new.sink)) }
     ensures open { OnOk result (out.new.failed ≡ false) }
-    ensures out_cause { HasCause (Err Stop.Out) (K.faults out.old.sink) (K.faults out.new.sink) result }
-    ensures journal_cause { HasCause (Err (Stop.Diary DiaryFault.Failed)) (J.faults journal.old) (J.faults journal.new) result }
-    ensures unread { result ≢ Err Stop.ReadFault }
+    ensures out_cause { HasCause (Err RunStop.Out) (K.faults out.old.sink) (K.faults out.new.sink) result }
+    ensures journal_cause { HasCause (Err (RunStop.Diary DiaryFault.Failed)) (J.faults journal.old) (J.faults journal.new) result }
+    ensures unread { result ≢ Err RunStop.ReadFault }
     ensures out_name { K.name out.new.sink ≡ K.name out.old.sink }
     ensures out_tells { is_some (K.held out.new.sink) ≡ is_some (K.held out.old.sink) }
 {
@@ -73,16 +73,16 @@ fn play_all<C: Codec, S: Source, K: Sink, J: Diary>(
     pictures: &mut Reader<S>,
     out: &mut Writer<K>,
     journal: &mut J,
-) -> Result<Summary, Stop>
+) -> Result<Summary, RunStop>
     requires fresh { pictures.old.kept ≡ None }
-    requires narrow { IsNarrow pictures.old.head }
+    requires legal { IsHead pictures.old.head }
     requires open { out.old.failed ≡ false }
     requires runs { IsAt C.coding pictures.old.head play.old.stage.world play.old.downs play.old.ups (K.held out.old.sink) (begun []) }
-    ensures gives { RunGives C.coding pictures.old.head script.now J.gives (run_end result) (S.left pictures.old.source) (K.held out.new.sink) }
+    ensures gives { RunGives C.coding pictures.old.head script.now J.gives pictures.old.place (run_end result) (S.left pictures.old.source) (K.held out.new.sink) }
     ensures end { OnOk result (IfSome (S.left pictures.new.source) (λ xs. xs ≡ [])) }
-    ensures cause { HasCause (Err Stop.ReadFault) (S.faults pictures.old.source) (S.faults pictures.new.source) result }
-    ensures out_cause { HasCause (Err Stop.Out) (K.faults out.old.sink) (K.faults out.new.sink) result }
-    ensures journal_cause { HasCause (Err (Stop.Diary DiaryFault.Failed)) (J.faults journal.old) (J.faults journal.new) result }
+    ensures cause { HasCause (Err RunStop.ReadFault) (S.faults pictures.old.source) (S.faults pictures.new.source) result }
+    ensures out_cause { HasCause (Err RunStop.Out) (K.faults out.old.sink) (K.faults out.new.sink) result }
+    ensures journal_cause { HasCause (Err (RunStop.Diary DiaryFault.Failed)) (J.faults journal.old) (J.faults journal.new) result }
     ensures name { S.name pictures.new.source ≡ S.name pictures.old.source }
     ensures had { S.had pictures.new.source ≡ S.had pictures.old.source }
     ensures tells { is_some (S.left pictures.new.source) ≡ is_some (S.left pictures.old.source) }
@@ -109,16 +109,16 @@ fn run<C: Codec, S: Source, K: Sink, J: Diary>(
     script: &Script,
     out: &mut Writer<K>,
     journal: &mut J,
-) -> Result<Summary, Stop>
+) -> Result<Summary, RunStop>
     requires fresh { pictures.old.kept ≡ None }
-    requires narrow { IsNarrow pictures.old.head }
+    requires legal { IsHead pictures.old.head }
     requires open { out.old.failed ≡ false }
     requires nothing { IfSome (K.held out.old.sink) (λ xs. xs ≡ []) }
-    ensures gives { RunGives C.coding pictures.old.head script.now J.gives (run_end result) (S.left pictures.old.source) (K.held out.new.sink) }
+    ensures gives { RunGives C.coding pictures.old.head script.now J.gives pictures.old.place (run_end result) (S.left pictures.old.source) (K.held out.new.sink) }
     ensures end { OnOk result (IfSome (S.left pictures.new.source) (λ xs. xs ≡ [])) }
-    ensures cause { HasCause (Err Stop.ReadFault) (S.faults pictures.old.source) (S.faults pictures.new.source) result }
-    ensures out_cause { HasCause (Err Stop.Out) (K.faults out.old.sink) (K.faults out.new.sink) result }
-    ensures journal_cause { HasCause (Err (Stop.Diary DiaryFault.Failed)) (J.faults journal.old) (J.faults journal.new) result }
+    ensures cause { HasCause (Err RunStop.ReadFault) (S.faults pictures.old.source) (S.faults pictures.new.source) result }
+    ensures out_cause { HasCause (Err RunStop.Out) (K.faults out.old.sink) (K.faults out.new.sink) result }
+    ensures journal_cause { HasCause (Err (RunStop.Diary DiaryFault.Failed)) (J.faults journal.old) (J.faults journal.new) result }
     ensures name { S.name pictures.new.source ≡ S.name pictures.old.source }
     ensures had { S.had pictures.new.source ≡ S.had pictures.old.source }
     ensures tells { is_some (S.left pictures.new.source) ≡ is_some (S.left pictures.old.source) }
@@ -146,10 +146,10 @@ pub fn run_alone<C: Codec, S: Source, K: Sink, J: Diary>(
     journal: &mut J,
 ) -> RunEnd
     requires fresh { pictures.old.kept ≡ None }
-    requires narrow { IsNarrow pictures.old.head }
+    requires legal { IsHead pictures.old.head }
     requires open { out.old.failed ≡ false }
     requires nothing { IfSome (K.held out.old.sink) (λ xs. xs ≡ []) }
-    ensures gives { RunGives C.coding pictures.old.head script.now J.gives result (S.left pictures.old.source) (K.held out.new.sink) }
+    ensures gives { RunGives C.coding pictures.old.head script.now J.gives pictures.old.place result (S.left pictures.old.source) (K.held out.new.sink) }
     ensures promises { IfSome (S.left pictures.old.source) (KeepsPromises C.coding pictures.old.head script.now) }
     ensures leaves { IfSome (S.left pictures.old.source) (LeavesNothing C.coding pictures.old.head script.now) }
     ensures end { AtEnd result (S.left pictures.new.source) }
@@ -163,6 +163,7 @@ pub fn run_alone<C: Codec, S: Source, K: Sink, J: Diary>(
     ensures out_tells { is_some (K.held out.new.sink) ≡ is_some (K.held out.old.sink) }
 {
     every_run_keeps_its_promises::<C>();
+    rate_fits(pictures.head());
     match run(alloc, codec, pictures, script, out, journal) {
         Ok(summary) => RunEnd::Ok(summary),
         Err(stop) => end_of(stop),

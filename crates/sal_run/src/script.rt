@@ -2,16 +2,17 @@
 
 ghost use Rattle.std.specs.Prelude.{◌≡◌, ◌≢◌, ◌≤◌, ◌*◌, ◌/◌, ◌∷◌, [], is_some, false, ℕ, List, Option, Some, None, OnOk, Ok, Err};
 ghost use Rattle.sal_io.specs.Calls.{HasCause};
-ghost use Rattle.sal_y4m.specs.Grammar.{IsNarrow};
+ghost use Rattle.sal_y4m.specs.Head.{IsHead};
 ghost use Rattle.sal_script.specs.declared.line.ScriptLine.TheVariants.{Rest};
 ghost use Rattle.sal_y4m.specs.declared.head.Head.{Head as HeadData};
 ghost use Rattle.sal_world.specs.Script.{Run, is_number};
+ghost use Rattle.sal_run.specs.Place.{Carries};
 ghost use Rattle.sal_run.specs.Running.{IsAt};
 ghost use Rattle.sal_run.specs.Input.{LineGoes, LinesGo, next_said};
 
 use crate::input::{Feed, take};
 use crate::play::Play;
-use crate::stop::Stop;
+use crate::stop::RunStop;
 use sal_codec::Codec;
 use sal_io::{Sink, Source};
 use sal_script::ScriptLine;
@@ -26,14 +27,15 @@ fn next<C: Codec, S: Source, J: Diary>(
     pictures: &mut Reader<S>,
     feed: &mut Feed,
     journal: &mut J,
-) -> Result<(), Stop>
+) -> Result<(), RunStop>
     requires fresh { pictures.old.kept ≡ None }
-    requires narrow { IsNarrow pictures.old.head }
+    requires legal { IsHead pictures.old.head }
     requires runs { (r : Run C.State) × ((held : Option (List ℕ)) × IsAt C.coding pictures.old.head play.old.stage.world play.old.downs play.old.ups held r) }
-    ensures goes { (r : Run C.State) (held : Option (List ℕ)) → IsAt C.coding pictures.old.head play.old.stage.world play.old.downs play.old.ups held r → LineGoes C.coding pictures.old.head J.gives (number, next_said late) feed.old.room feed.new.room (S.left pictures.old.source) (S.left pictures.new.source) play.new.stage.world play.new.downs play.new.ups held r result }
-    ensures cause { HasCause (Err Stop.ReadFault) (S.faults pictures.old.source) (S.faults pictures.new.source) result }
-    ensures journal_cause { HasCause (Err (Stop.Diary DiaryFault.Failed)) (J.faults journal.old) (J.faults journal.new) result }
-    ensures never { result ≢ Err Stop.Out }
+    ensures goes { (r : Run C.State) (held : Option (List ℕ)) → IsAt C.coding pictures.old.head play.old.stage.world play.old.downs play.old.ups held r → LineGoes C.coding pictures.old.head J.gives pictures.old.place (number, next_said late) feed.old.room feed.new.room (S.left pictures.old.source) (S.left pictures.new.source) play.new.stage.world play.new.downs play.new.ups held r result }
+    ensures cause { HasCause (Err RunStop.ReadFault) (S.faults pictures.old.source) (S.faults pictures.new.source) result }
+    ensures journal_cause { HasCause (Err (RunStop.Diary DiaryFault.Failed)) (J.faults journal.old) (J.faults journal.new) result }
+    ensures never { result ≢ Err RunStop.Out }
+    ensures places { OnOk result (Carries pictures.old.place (S.left pictures.old.source) pictures.new.place (S.left pictures.new.source)) }
     ensures fresh { OnOk result (pictures.new.kept ≡ None) }
     ensures head { pictures.new.head ≡ pictures.old.head }
     ensures name { S.name pictures.new.source ≡ S.name pictures.old.source }
@@ -42,7 +44,7 @@ fn next<C: Codec, S: Source, J: Diary>(
 {
     let alloc = play.stage.alloc;
     let Some(picture) = take(alloc, pictures, feed)? else {
-        return Err(Stop::BadScript(number));
+        return Err(RunStop::BadScript(number));
     };
     play.next(feed.taken, late, picture, journal)
 }
@@ -61,20 +63,20 @@ fn down<C: Codec, K: Sink, J: Diary>(
     which: u32,
     out: &mut Writer<K>,
     journal: &mut J,
-) -> Result<(), Stop>
+) -> Result<(), RunStop>
     requires open { out.old.failed ≡ false }
     requires runs { (head : HeadData) × ((r : Run C.State) × IsAt C.coding head play.old.stage.world play.old.downs play.old.ups (K.held out.old.sink) r) }
-    ensures goes { (head : HeadData) (m : ℕ) (left : Option (List ℕ)) (r : Run C.State) → IsAt C.coding head play.old.stage.world play.old.downs play.old.ups (K.held out.old.sink) r → LineGoes C.coding head J.gives (number, ScriptLine.Down which) m m left left play.new.stage.world play.new.downs play.new.ups (K.held out.new.sink) r result }
+    ensures goes { (head : HeadData) (before m : ℕ) (left : Option (List ℕ)) (r : Run C.State) → IsAt C.coding head play.old.stage.world play.old.downs play.old.ups (K.held out.old.sink) r → LineGoes C.coding head J.gives before (number, ScriptLine.Down which) m m left left play.new.stage.world play.new.downs play.new.ups (K.held out.new.sink) r result }
     ensures open { OnOk result (out.new.failed ≡ false) }
-    ensures out_cause { HasCause (Err Stop.Out) (K.faults out.old.sink) (K.faults out.new.sink) result }
-    ensures journal_cause { HasCause (Err (Stop.Diary DiaryFault.Failed)) (J.faults journal.old) (J.faults journal.new) result }
-    ensures unread { result ≢ Err Stop.ReadFault }
+    ensures out_cause { HasCause (Err RunStop.Out) (K.faults out.old.sink) (K.faults out.new.sink) result }
+    ensures journal_cause { HasCause (Err (RunStop.Diary DiaryFault.Failed)) (J.faults journal.old) (J.faults journal.new) result }
+    ensures unread { result ≢ Err RunStop.ReadFault }
     ensures out_name { K.name out.new.sink ≡ K.name out.old.sink }
     ensures out_tells { is_some (K.held out.new.sink) ≡ is_some (K.held out.old.sink) }
 {
     let last = u64::from(play.stage.world.datagrams());
     if !is_number(u64::from(which), last) {
-        return Err(Stop::BadScript(number));
+        return Err(RunStop::BadScript(number));
     }
     play.down(which, out, journal)
 }
@@ -85,16 +87,16 @@ fn up<C: Codec, J: Diary>(
     number: u32,
     which: u32,
     journal: &mut J,
-) -> Result<(), Stop>
+) -> Result<(), RunStop>
     requires runs { (head : HeadData) × ((r : Run C.State) × ((held : Option (List ℕ)) × IsAt C.coding head play.old.stage.world play.old.downs play.old.ups held r)) }
-    ensures goes { (head : HeadData) (m : ℕ) (left : Option (List ℕ)) (r : Run C.State) (held : Option (List ℕ)) → IsAt C.coding head play.old.stage.world play.old.downs play.old.ups held r → LineGoes C.coding head J.gives (number, ScriptLine.Up which) m m left left play.new.stage.world play.new.downs play.new.ups held r result }
-    ensures journal_cause { HasCause (Err (Stop.Diary DiaryFault.Failed)) (J.faults journal.old) (J.faults journal.new) result }
-    ensures never { result ≢ Err Stop.Out }
-    ensures unread { result ≢ Err Stop.ReadFault }
+    ensures goes { (head : HeadData) (before m : ℕ) (left : Option (List ℕ)) (r : Run C.State) (held : Option (List ℕ)) → IsAt C.coding head play.old.stage.world play.old.downs play.old.ups held r → LineGoes C.coding head J.gives before (number, ScriptLine.Up which) m m left left play.new.stage.world play.new.downs play.new.ups held r result }
+    ensures journal_cause { HasCause (Err (RunStop.Diary DiaryFault.Failed)) (J.faults journal.old) (J.faults journal.new) result }
+    ensures never { result ≢ Err RunStop.Out }
+    ensures unread { result ≢ Err RunStop.ReadFault }
 {
     let wanted = u64::from(which);
     if !is_number(wanted, play.stage.world.acks()) {
-        return Err(Stop::BadScript(number));
+        return Err(RunStop::BadScript(number));
     }
     play.up(wanted, journal)
 }
@@ -114,21 +116,22 @@ fn rest<C: Codec, S: Source, K: Sink, J: Diary>(
     feed: &mut Feed,
     out: &mut Writer<K>,
     journal: &mut J,
-) -> Result<(), Stop>
+) -> Result<(), RunStop>
     requires fresh { pictures.old.kept ≡ None }
-    requires narrow { IsNarrow pictures.old.head }
+    requires legal { IsHead pictures.old.head }
     requires open { out.old.failed ≡ false }
     requires runs { (r : Run C.State) × IsAt C.coding pictures.old.head play.old.stage.world play.old.downs play.old.ups (K.held out.old.sink) r }
-    ensures goes { (n : ℕ) (r : Run C.State) → IsAt C.coding pictures.old.head play.old.stage.world play.old.downs play.old.ups (K.held out.old.sink) r → LineGoes C.coding pictures.old.head J.gives (n, Rest) feed.old.room feed.new.room (S.left pictures.old.source) (S.left pictures.new.source) play.new.stage.world play.new.downs play.new.ups (K.held out.new.sink) r result }
-    ensures cause { HasCause (Err Stop.ReadFault) (S.faults pictures.old.source) (S.faults pictures.new.source) result }
+    ensures goes { (n : ℕ) (r : Run C.State) → IsAt C.coding pictures.old.head play.old.stage.world play.old.downs play.old.ups (K.held out.old.sink) r → LineGoes C.coding pictures.old.head J.gives pictures.old.place (n, Rest) feed.old.room feed.new.room (S.left pictures.old.source) (S.left pictures.new.source) play.new.stage.world play.new.downs play.new.ups (K.held out.new.sink) r result }
+    ensures cause { HasCause (Err RunStop.ReadFault) (S.faults pictures.old.source) (S.faults pictures.new.source) result }
+    ensures places { OnOk result (Carries pictures.old.place (S.left pictures.old.source) pictures.new.place (S.left pictures.new.source)) }
     ensures fresh { OnOk result (pictures.new.kept ≡ None) }
     ensures head { pictures.new.head ≡ pictures.old.head }
     ensures name { S.name pictures.new.source ≡ S.name pictures.old.source }
     ensures had { S.had pictures.new.source ≡ S.had pictures.old.source }
     ensures tells { is_some (S.left pictures.new.source) ≡ is_some (S.left pictures.old.source) }
     ensures open { OnOk result (out.new.failed ≡ false) }
-    ensures out_cause { HasCause (Err Stop.Out) (K.faults out.old.sink) (K.faults out.new.sink) result }
-    ensures journal_cause { HasCause (Err (Stop.Diary DiaryFault.Failed)) (J.faults journal.old) (J.faults journal.new) result }
+    ensures out_cause { HasCause (Err RunStop.Out) (K.faults out.old.sink) (K.faults out.new.sink) result }
+    ensures journal_cause { HasCause (Err (RunStop.Diary DiaryFault.Failed)) (J.faults journal.old) (J.faults journal.new) result }
     ensures out_name { K.name out.new.sink ≡ K.name out.old.sink }
     ensures out_tells { is_some (K.held out.new.sink) ≡ is_some (K.held out.old.sink) }
 {
@@ -150,21 +153,22 @@ fn line<C: Codec, S: Source, K: Sink, J: Diary>(
     feed: &mut Feed,
     out: &mut Writer<K>,
     journal: &mut J,
-) -> Result<(), Stop>
+) -> Result<(), RunStop>
     requires fresh { pictures.old.kept ≡ None }
-    requires narrow { IsNarrow pictures.old.head }
+    requires legal { IsHead pictures.old.head }
     requires open { out.old.failed ≡ false }
     requires runs { (r : Run C.State) × IsAt C.coding pictures.old.head play.old.stage.world play.old.downs play.old.ups (K.held out.old.sink) r }
-    ensures goes { (r : Run C.State) → IsAt C.coding pictures.old.head play.old.stage.world play.old.downs play.old.ups (K.held out.old.sink) r → LineGoes C.coding pictures.old.head J.gives (number, said) feed.old.room feed.new.room (S.left pictures.old.source) (S.left pictures.new.source) play.new.stage.world play.new.downs play.new.ups (K.held out.new.sink) r result }
-    ensures cause { HasCause (Err Stop.ReadFault) (S.faults pictures.old.source) (S.faults pictures.new.source) result }
+    ensures goes { (r : Run C.State) → IsAt C.coding pictures.old.head play.old.stage.world play.old.downs play.old.ups (K.held out.old.sink) r → LineGoes C.coding pictures.old.head J.gives pictures.old.place (number, said) feed.old.room feed.new.room (S.left pictures.old.source) (S.left pictures.new.source) play.new.stage.world play.new.downs play.new.ups (K.held out.new.sink) r result }
+    ensures cause { HasCause (Err RunStop.ReadFault) (S.faults pictures.old.source) (S.faults pictures.new.source) result }
+    ensures places { OnOk result (Carries pictures.old.place (S.left pictures.old.source) pictures.new.place (S.left pictures.new.source)) }
     ensures fresh { OnOk result (pictures.new.kept ≡ None) }
     ensures head { pictures.new.head ≡ pictures.old.head }
     ensures name { S.name pictures.new.source ≡ S.name pictures.old.source }
     ensures had { S.had pictures.new.source ≡ S.had pictures.old.source }
     ensures tells { is_some (S.left pictures.new.source) ≡ is_some (S.left pictures.old.source) }
     ensures open { OnOk result (out.new.failed ≡ false) }
-    ensures out_cause { HasCause (Err Stop.Out) (K.faults out.old.sink) (K.faults out.new.sink) result }
-    ensures journal_cause { HasCause (Err (Stop.Diary DiaryFault.Failed)) (J.faults journal.old) (J.faults journal.new) result }
+    ensures out_cause { HasCause (Err RunStop.Out) (K.faults out.old.sink) (K.faults out.new.sink) result }
+    ensures journal_cause { HasCause (Err (RunStop.Diary DiaryFault.Failed)) (J.faults journal.old) (J.faults journal.new) result }
     ensures out_name { K.name out.new.sink ≡ K.name out.old.sink }
     ensures out_tells { is_some (K.held out.new.sink) ≡ is_some (K.held out.old.sink) }
 {
@@ -188,21 +192,22 @@ pub(crate) fn lines<C: Codec, S: Source, K: Sink, J: Diary>(
     feed: &mut Feed,
     out: &mut Writer<K>,
     journal: &mut J,
-) -> Result<(), Stop>
+) -> Result<(), RunStop>
     requires fresh { pictures.old.kept ≡ None }
-    requires narrow { IsNarrow pictures.old.head }
+    requires legal { IsHead pictures.old.head }
     requires open { out.old.failed ≡ false }
     requires runs { (r : Run C.State) × IsAt C.coding pictures.old.head play.old.stage.world play.old.downs play.old.ups (K.held out.old.sink) r }
-    ensures goes { (r : Run C.State) → IsAt C.coding pictures.old.head play.old.stage.world play.old.downs play.old.ups (K.held out.old.sink) r → LinesGo C.coding pictures.old.head J.gives script.now feed.old.room feed.new.room (S.left pictures.old.source) (S.left pictures.new.source) play.new.stage.world play.new.downs play.new.ups (K.held out.new.sink) r result }
-    ensures cause { HasCause (Err Stop.ReadFault) (S.faults pictures.old.source) (S.faults pictures.new.source) result }
+    ensures goes { (r : Run C.State) → IsAt C.coding pictures.old.head play.old.stage.world play.old.downs play.old.ups (K.held out.old.sink) r → LinesGo C.coding pictures.old.head J.gives pictures.old.place script.now feed.old.room feed.new.room (S.left pictures.old.source) (S.left pictures.new.source) play.new.stage.world play.new.downs play.new.ups (K.held out.new.sink) r result }
+    ensures cause { HasCause (Err RunStop.ReadFault) (S.faults pictures.old.source) (S.faults pictures.new.source) result }
+    ensures places { OnOk result (Carries pictures.old.place (S.left pictures.old.source) pictures.new.place (S.left pictures.new.source)) }
     ensures fresh { OnOk result (pictures.new.kept ≡ None) }
     ensures head { pictures.new.head ≡ pictures.old.head }
     ensures name { S.name pictures.new.source ≡ S.name pictures.old.source }
     ensures had { S.had pictures.new.source ≡ S.had pictures.old.source }
     ensures tells { is_some (S.left pictures.new.source) ≡ is_some (S.left pictures.old.source) }
     ensures open { OnOk result (out.new.failed ≡ false) }
-    ensures out_cause { HasCause (Err Stop.Out) (K.faults out.old.sink) (K.faults out.new.sink) result }
-    ensures journal_cause { HasCause (Err (Stop.Diary DiaryFault.Failed)) (J.faults journal.old) (J.faults journal.new) result }
+    ensures out_cause { HasCause (Err RunStop.Out) (K.faults out.old.sink) (K.faults out.new.sink) result }
+    ensures journal_cause { HasCause (Err (RunStop.Diary DiaryFault.Failed)) (J.faults journal.old) (J.faults journal.new) result }
     ensures out_name { K.name out.new.sink ≡ K.name out.old.sink }
     ensures out_tells { is_some (K.held out.new.sink) ≡ is_some (K.held out.old.sink) }
 {

@@ -12,7 +12,7 @@ ghost use Rattle.sal_run.specs.Turns.{is_fine_role, is_late, is_job, is_frame, o
 
 use crate::counted::Counted;
 use crate::events::{choose, decoded, ready, report, start, take};
-use crate::stop::Stop;
+use crate::stop::RunStop;
 use sal_base::Picture;
 use sal_codec::Codec;
 use sal_io::Sink;
@@ -24,7 +24,7 @@ use std::sync::Arc;
 
 /// Both ends, and the codec by which their jobs and frames run.
 #[derive(Drop)]
-pub(crate) struct Stage<C: Codec> {
+pub(crate) struct BothEnds<C: Codec> {
     pub alloc: Global,
     pub codec: C,
     pub world: Counted<C>,
@@ -40,14 +40,14 @@ fn comes_late(late: bool, role: JobRole) -> bool
     late && matches!(role, JobRole::Fine)
 }
 
-impl<C: Codec> Stage<C> {
+impl<C: Codec> BothEnds<C> {
     /// Runs the next job, if one waits that doesn't come late.
-    fn job<J: Diary>(&mut self, late: bool, journal: &mut J) -> Result<bool, Stop>
+    fn job<J: Diary>(&mut self, late: bool, journal: &mut J) -> Result<bool, RunStop>
         requires runs { (head : HeadData) × ((r : Run C.State) × ((held : Option (List ℕ)) × IsRunning C.coding head self.old.world held r)) }
         ensures goes { (head : HeadData) (r : Run C.State) (held : Option (List ℕ)) → IsRunning C.coding head self.old.world held r → Goes C.coding head J.gives self.new.world held (one_job C.coding (session_of head) late r) result }
         ensures more { (head : HeadData) (r : Run C.State) (held : Option (List ℕ)) → IsRunning C.coding head self.old.world held r → IfOk result (λ more. more ≡ is_job late r) }
-        ensures journal_cause { HasCause (Err (Stop.Diary DiaryFault.Failed)) (J.faults journal.old) (J.faults journal.new) result }
-        ensures never { result ≢ Err Stop.Out }
+        ensures journal_cause { HasCause (Err (RunStop.Diary DiaryFault.Failed)) (J.faults journal.old) (J.faults journal.new) result }
+        ensures never { result ≢ Err RunStop.Out }
     {
         let Some(role) = self.world.next_role() else {
             return Ok(false);
@@ -62,11 +62,11 @@ impl<C: Codec> Stage<C> {
     }
 
     /// Runs the jobs that wait, up to the first that comes late.
-    fn jobs<J: Diary>(&mut self, late: bool, journal: &mut J) -> Result<(), Stop>
+    fn jobs<J: Diary>(&mut self, late: bool, journal: &mut J) -> Result<(), RunStop>
         requires runs { (head : HeadData) × ((r : Run C.State) × ((held : Option (List ℕ)) × IsRunning C.coding head self.old.world held r)) }
         ensures goes { (head : HeadData) (r : Run C.State) (held : Option (List ℕ)) → IsRunning C.coding head self.old.world held r → Goes C.coding head J.gives self.new.world held (run_jobs C.coding (session_of head) (is_late late) 3 r) result }
-        ensures journal_cause { HasCause (Err (Stop.Diary DiaryFault.Failed)) (J.faults journal.old) (J.faults journal.new) result }
-        ensures never { result ≢ Err Stop.Out }
+        ensures journal_cause { HasCause (Err (RunStop.Diary DiaryFault.Failed)) (J.faults journal.old) (J.faults journal.new) result }
+        ensures never { result ≢ Err RunStop.Out }
     {
         for _run in 0..MOST_JOBS {
             let more = self.job(late, journal)?;
@@ -84,14 +84,14 @@ impl<C: Codec> Stage<C> {
         late: bool,
         picture: Picture,
         journal: &mut J,
-    ) -> Result<(), Stop>
+    ) -> Result<(), RunStop>
         requires runs { (head : HeadData) × ((r : Run C.State) × ((held : Option (List ℕ)) × (IsRunning C.coding head self.old.world held r × HasSize (session_of head) picture))) }
         ensures goes { (head : HeadData) (r : Run C.State) (held : Option (List ℕ)) → IsRunning C.coding head self.old.world held r → HasSize (session_of head) picture → Goes C.coding head J.gives self.new.world held (next_picture C.coding (session_of head) (is_late late) picture r) result }
-        ensures journal_cause { HasCause (Err (Stop.Diary DiaryFault.Failed)) (J.faults journal.old) (J.faults journal.new) result }
-        ensures never { result ≢ Err Stop.Out }
+        ensures journal_cause { HasCause (Err (RunStop.Diary DiaryFault.Failed)) (J.faults journal.old) (J.faults journal.new) result }
+        ensures never { result ≢ Err RunStop.Out }
     {
         let Ok(samples) = Arc::new(self.alloc, picture) else {
-            return Err(Stop::Memory);
+            return Err(RunStop::Memory);
         };
         start(&mut self.world, number, samples, journal)?;
         self.jobs(late, journal)?;
@@ -104,14 +104,14 @@ impl<C: Codec> Stage<C> {
         &mut self,
         out: &mut Writer<K>,
         journal: &mut J,
-    ) -> Result<bool, Stop>
+    ) -> Result<bool, RunStop>
         requires open { out.old.failed ≡ false }
         requires runs { (head : HeadData) × ((r : Run C.State) × IsRunning C.coding head self.old.world (K.held out.old.sink) r) }
         ensures goes { (head : HeadData) (r : Run C.State) → IsRunning C.coding head self.old.world (K.held out.old.sink) r → Goes C.coding head J.gives self.new.world (K.held out.new.sink) (one_frame C.coding (session_of head) r) result }
         ensures more { (head : HeadData) (r : Run C.State) → IsRunning C.coding head self.old.world (K.held out.old.sink) r → IfOk result (λ more. more ≡ is_frame C.coding r) }
         ensures open { OnOk result (out.new.failed ≡ false) }
-        ensures out_cause { HasCause (Err Stop.Out) (K.faults out.old.sink) (K.faults out.new.sink) result }
-        ensures journal_cause { HasCause (Err (Stop.Diary DiaryFault.Failed)) (J.faults journal.old) (J.faults journal.new) result }
+        ensures out_cause { HasCause (Err RunStop.Out) (K.faults out.old.sink) (K.faults out.new.sink) result }
+        ensures journal_cause { HasCause (Err (RunStop.Diary DiaryFault.Failed)) (J.faults journal.old) (J.faults journal.new) result }
         ensures out_name { K.name out.new.sink ≡ K.name out.old.sink }
         ensures out_tells { is_some (K.held out.new.sink) ≡ is_some (K.held out.old.sink) }
     {
@@ -128,13 +128,13 @@ impl<C: Codec> Stage<C> {
         &mut self,
         out: &mut Writer<K>,
         journal: &mut J,
-    ) -> Result<(), Stop>
+    ) -> Result<(), RunStop>
         requires open { out.old.failed ≡ false }
         requires runs { (head : HeadData) × ((r : Run C.State) × IsRunning C.coding head self.old.world (K.held out.old.sink) r) }
         ensures goes { (head : HeadData) (r : Run C.State) → IsRunning C.coding head self.old.world (K.held out.old.sink) r → Goes C.coding head J.gives self.new.world (K.held out.new.sink) (drained C.coding (session_of head) (length (acks r.world)) r) result }
         ensures open { OnOk result (out.new.failed ≡ false) }
-        ensures out_cause { HasCause (Err Stop.Out) (K.faults out.old.sink) (K.faults out.new.sink) result }
-        ensures journal_cause { HasCause (Err (Stop.Diary DiaryFault.Failed)) (J.faults journal.old) (J.faults journal.new) result }
+        ensures out_cause { HasCause (Err RunStop.Out) (K.faults out.old.sink) (K.faults out.new.sink) result }
+        ensures journal_cause { HasCause (Err (RunStop.Diary DiaryFault.Failed)) (J.faults journal.old) (J.faults journal.new) result }
         ensures out_name { K.name out.new.sink ≡ K.name out.old.sink }
         ensures out_tells { is_some (K.held out.new.sink) ≡ is_some (K.held out.old.sink) }
     {

@@ -9,7 +9,7 @@ use sal_y4m::{Why, Y4mFault};
 
 /// Why a run stops before its end.
 #[derive(Clone, Copy, Debug, PartialEq, Eq)]
-pub(crate) enum Stop {
+pub(crate) enum RunStop {
     /// The input isn't in the grammar: at this byte, for this reason.
     BadInput(u64, Why),
     /// This line needs a picture and none is left, or names a number that wasn't sent.
@@ -29,29 +29,29 @@ pub(crate) enum Stop {
 }
 
 /// How a run ends that stops so.
-pub(crate) fn end_of(stop: Stop) -> RunEnd
+pub(crate) fn end_of(stop: RunStop) -> RunEnd
     ensures { result ≡ end_of stop }
 {
     match stop {
-        Stop::BadInput(place, why) => RunEnd::BadInput(place, why),
-        Stop::BadScript(line) => RunEnd::BadScript(line),
-        Stop::TooMany => RunEnd::TooMany,
-        Stop::TooLong => RunEnd::TooLong,
-        Stop::ReadFault => RunEnd::ReadFault,
-        Stop::Out => RunEnd::WriteFault(Which::Out),
-        Stop::Diary(DiaryFault::Failed) => RunEnd::WriteFault(Which::Journal),
-        Stop::Diary(DiaryFault::TooLong) => RunEnd::TooLong,
-        Stop::Diary(DiaryFault::Memory) | Stop::Memory => RunEnd::Memory,
+        RunStop::BadInput(place, why) => RunEnd::BadInput(place, why),
+        RunStop::BadScript(line) => RunEnd::BadScript(line),
+        RunStop::TooMany => RunEnd::TooMany,
+        RunStop::TooLong => RunEnd::TooLong,
+        RunStop::ReadFault => RunEnd::ReadFault,
+        RunStop::Out => RunEnd::WriteFault(Which::Out),
+        RunStop::Diary(DiaryFault::Failed) => RunEnd::WriteFault(Which::Journal),
+        RunStop::Diary(DiaryFault::TooLong) => RunEnd::TooLong,
+        RunStop::Diary(DiaryFault::Memory) | RunStop::Memory => RunEnd::Memory,
     }
 }
 
 /// Why a run stops at a fault of the input.
-pub(crate) fn stop_of(fault: Y4mFault) -> Stop
+pub(crate) fn stop_of(fault: Y4mFault) -> RunStop
     ensures { result ≡ stop_of fault }
 {
     match fault {
-        Y4mFault::Bad(place, why) => Stop::BadInput(place, why),
-        Y4mFault::ReadFault => Stop::ReadFault,
-        Y4mFault::Memory => Stop::Memory,
+        Y4mFault::Bad(place, why) => RunStop::BadInput(place, why),
+        Y4mFault::ReadFault => RunStop::ReadFault,
+        Y4mFault::Memory => RunStop::Memory,
     }
 }

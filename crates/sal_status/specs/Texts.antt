@@ -1,7 +1,6 @@
 -- The text that is printed of each status.
 use Rattle.std.specs.Prelude.{ℕ, List, [], ◌++◌, get_or, codes, decimal}
-use Rattle.sal_y4m.specs.declared.fault.Why.{Why}
-use Rattle.sal_y4m.specs.declared.fault.Why.TheVariants as why
+use Rattle.sal_y4m.specs.Words.{word_of}
 use Rattle.sal_status.specs.declared.status.Named.{Named}
 use Rattle.sal_status.specs.declared.status.Named.TheVariants.{Word, Screen}
 use Rattle.sal_run.specs.declared.end.Summary.{Summary}
@@ -14,10 +13,6 @@ use Rattle.sal_status.specs.declared.status.Status.TheVariants as status
 abbrev pub name_of : List (List ℕ) → Named → List ℕ
 name_of words (Word index) = get_or words index []
 name_of words Screen = codes "screen"
-
--- the word of a fault of the input
-abbrev pub word_of : Why → List ℕ
-word_of why.Form = codes "form"
 
 -- a text and what it is about, on a line
 abbrev pub about : List ℕ → List ℕ → List ℕ

@@ -54,9 +54,9 @@ fn each_status_has_its_number_and_its_line(rt: HostRuntime) -> Result<(), Fail> 
             b"usage: salsify loop, send, receive, check or generate\n",
         ),
         (
-            Status::BadInput(Named::Word(1), 13, Why::Form),
+            Status::BadInput(Named::Word(1), 13, Why::Missing),
             3,
-            b"bad input a at byte 13: form\n",
+            b"bad input a at byte 13: missing\n",
         ),
         (Status::BadScript(262144), 4, b"bad script at line 262144\n"),
         (Status::ReadFault(Named::Word(1)), 6, b"read fault a\n"),

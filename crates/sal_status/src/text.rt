@@ -2,7 +2,8 @@
 
 ghost use Rattle.std.specs.Prelude.{is_some, ◌≡◌, ◌++◌, map, codes, decimal, string_bytes};
 ghost use Rattle.sal_io.specs.Calls.{HasCause, PutGives};
-ghost use Rattle.sal_status.specs.Texts.{name_of, text_of, summary_text, six_lines, bad_input, bad_script, word_of};
+ghost use Rattle.sal_y4m.specs.Words.{word_of};
+ghost use Rattle.sal_status.specs.Texts.{name_of, text_of, summary_text, six_lines, bad_input, bad_script};
 
 use crate::status::{Named, Status};
 use itoa::Buffer;
@@ -12,15 +13,6 @@ use sal_y4m::Why;
 
 // The line of words that aren't in the grammar.
 const USAGE: &[u8] = b"usage: salsify loop, send, receive, check or generate\n";
-
-// The word of a fault of the input.
-fn why_word(why: Why) -> &'static [u8]
-    ensures { result.now ≡ word_of why }
-{
-    match why {
-        Why::Form => b"form",
-    }
-}
 
 // The name of what a status is about.
 fn name<'a>(words: &'a [String], named: Named) -> &'a [u8]
@@ -122,7 +114,7 @@ fn show_input<K: Sink>(screen: &mut K, name: &[u8], place: u64, why: Why) -> Put
     ensures tells { is_some (K.held screen.new) ≡ is_some (K.held screen.old) }
 {
     let mut digits = Buffer::new();
-    show_place(screen, name, digits.format(place).as_bytes(), why_word(why))
+    show_place(screen, name, digits.format(place).as_bytes(), why.word())
 }
 
 // The line of a script that has a bad line.

@@ -19,6 +19,6 @@ pub returns-clause-goes : goal.returns-clause-goes
 returns-clause-goes g c head r held is handed =
     let here = opened g.C.Codec.coding head _ _ held r c.world.view_is is in
     let did = λ (gave : Gave). Reports c.args.report.work.id gave in
-    let stands = subst (λ (gave : Gave). Stands g.C.Codec.coding (session_of head) c.report-answer.new.self (did gave ∷ r.events)) c.in-Some.ensures (c.report-answer.ensures.answered (session_of head) r.events here.stands handed).1 in
+    let stands = subst (λ (gave : Gave). Stands g.C.Codec.coding (session_of head) c.report-answer.new.self (did gave ∷ r.events)) c.in-Some.ensures.gave (c.report-answer.ensures.answered (session_of head) r.events here.stands handed).1 in
     goes_noted g.C.Codec.coding head g.J.Diary.gives _ held _ c.note.result c.note.ensures.gives
     (running_next g.C.Codec.coding head _ _ held r _ tt here stands (none_counted g.C.Codec.coding head _ _ held r (did (given (encoded g.C.Codec.coding c.args.report.work))) tt here refl))

@@ -1,5 +1,6 @@
 use Rattle.std.proofs.Common.{◌≡◌, ◌≤◌, None, is_some, false}
 use Rattle.sal_world.specs.Script.{Run}
+use Rattle.sal_run.specs.Place.{Carries}
 use Rattle.sal_run.specs.Running.{IsAt}
 use Rattle.sal_run.proofs.Whole.{LinesLeft}
 use Rattle.sal_run.proofs.script.lines.Given as goal
@@ -8,6 +9,7 @@ abbrev pub invariant-loop-numbered : goal.invariant-loop-numbered
 invariant-loop-numbered g l = record {
   left : (r : Run g.row.C-State.Denot) → IsAt g.C.Codec.coding l.initial.pictures.head l.initial.play.stage.world l.initial.play.downs l.initial.play.ups (g.K.Sink.held l.initial.out.sink) r
       → LinesLeft g.C.Codec.coding l.initial.pictures.head l.initial.feed.room (g.S.Source.left l.initial.pictures.source) l.script r l.numbered-index l.feed.room (g.S.Source.left l.pictures.source) l.play.stage.world l.play.downs l.play.ups (g.K.Sink.held l.out.sink);
+  places : Carries l.initial.pictures.place (g.S.Source.left l.initial.pictures.source) l.pictures.place (g.S.Source.left l.pictures.source);
   head : l.pictures.head ≡ l.initial.pictures.head;
   fresh : l.pictures.kept ≡ None;
   read_later : g.S.Source.faults l.initial.pictures.source ≤ g.S.Source.faults l.pictures.source;

@@ -5,7 +5,7 @@ use Rattle.sal_world.specs.Script.{with_event}
 use Rattle.sal_run.specs.Loop.{session_of}
 use Rattle.sal_run.specs.Running.{IsRunning, Stopped}
 use Rattle.sal_run.proofs.Turns.{start_exit, early_exit, choose_exit, samples_stop}
-use Rattle.sal_run.proofs.stage.Stage.next_picture.Goals as goal
+use Rattle.sal_run.proofs.stage.BothEnds.next_picture.Goals as goal
 
 pub returns-in_default-clause-goes : goal.returns-in_default-clause-goes
 returns-in_default-clause-goes g c head r held is size = samples_stop g.C.Codec.coding head g.J.Diary.gives c.args.self.now.world _ held c.args.late c.args.picture r is

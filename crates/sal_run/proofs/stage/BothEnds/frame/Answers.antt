@@ -1,7 +1,7 @@
 use Rattle.std.proofs.Common.{sym, ◌∙◌, subst, arith}
 use Rattle.sal_run.specs.Running.{IsRunning}
 use Rattle.sal_run.proofs.Turns.{ready_exit, decoded_exit, decoded_runs, was_ready, frame_some, frame_none, no_frame, no_out, never_stop}
-use Rattle.sal_run.proofs.stage.Stage.frame.Goals as goal
+use Rattle.sal_run.proofs.stage.BothEnds.frame.Goals as goal
 
 pub returns-in_err-frame-clause-goes : goal.returns-in_err-frame-clause-goes
 returns-in_err-frame-clause-goes g c head r is = ready_exit g.C.Codec.coding head g.J.Diary.gives _ _ r c.from_residual.result _ c.from_residual.ensures.1 (c.in_err-frame.ensures.goes head r _ is)

@@ -3,7 +3,7 @@ use Rattle.sal_y4m.specs.declared.head.Head.{Head}
 use Rattle.sal_world.specs.Script.{Run}
 use Rattle.sal_run.specs.Running.{IsRunning}
 use Rattle.sal_run.proofs.Turns.{JobsLeft}
-use Rattle.sal_run.proofs.stage.Stage.jobs.Given as goal
+use Rattle.sal_run.proofs.stage.BothEnds.jobs.Given as goal
 
 abbrev pub invariant-loop-run : goal.invariant-loop-run
 invariant-loop-run g l = record {

@@ -3,7 +3,7 @@ use Rattle.sal_y4m.specs.declared.head.Head.{Head}
 use Rattle.sal_world.specs.Script.{Run}
 use Rattle.sal_run.specs.Running.{IsRunning}
 use Rattle.sal_run.proofs.Turns.{FramesLeft}
-use Rattle.sal_run.proofs.stage.Stage.frames.Given as goal
+use Rattle.sal_run.proofs.stage.BothEnds.frames.Given as goal
 
 abbrev pub invariant-loop-round : goal.invariant-loop-round
 invariant-loop-round g l = record {

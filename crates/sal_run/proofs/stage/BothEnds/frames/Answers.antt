@@ -1,6 +1,6 @@
 use Rattle.std.proofs.Common.{rules}
 use Rattle.sal_run.proofs.Turns.{frames_first, frames_next, frames_done, frames_last, frames_exit, last_exit, no_out, never_stop}
-use Rattle.sal_run.proofs.stage.Stage.frames.Goals as goal
+use Rattle.sal_run.proofs.stage.BothEnds.frames.Goals as goal
 
 pub loop-round-init : goal.loop-round-init
 loop-round-init g c = record {

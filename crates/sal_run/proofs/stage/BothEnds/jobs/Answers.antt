@@ -1,6 +1,6 @@
 use Rattle.std.proofs.Common.{rules, arith}
 use Rattle.sal_run.proofs.Turns.{jobs_first, jobs_next, jobs_done, jobs_last, jobs_exit}
-use Rattle.sal_run.proofs.stage.Stage.jobs.Goals as goal
+use Rattle.sal_run.proofs.stage.BothEnds.jobs.Goals as goal
 
 pub loop-run-init : goal.loop-run-init
 loop-run-init g c = record { jobs = λ head r held is. jobs_first g.C.Codec.coding head c.args.late _ held r is; later = omega arith }

@@ -1,7 +1,7 @@
 use Rattle.std.proofs.Common.{sym, ◌∙◌}
 use Rattle.sal_run.specs.Loop.{session_of}
 use Rattle.sal_run.proofs.Turns.{waits, handed, take_exit, report_exit, job_goes}
-use Rattle.sal_run.proofs.stage.Stage.job.Goals as goal
+use Rattle.sal_run.proofs.stage.BothEnds.job.Goals as goal
 
 pub take-requires-clause-runs : goal.take-requires-clause-runs
 take-requires-clause-runs g c κs within =
