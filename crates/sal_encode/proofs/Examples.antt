@@ -19,7 +19,7 @@ use Rattle.sal_encode.specs.Plans.{planned_all}
 use Rattle.sal_encode.specs.FrameBytes.{first_pairs, tokens_branches, plan_branches, first_bytes, token_bytes, plan_bytes}
 use Rattle.sal_encode.specs.FrameBytes.{modes_pairs as plan_modes_pairs}
 
-grey : Plan
+unfoldable pub grey : Plan
 grey = record {
   header = record {
     key = true;

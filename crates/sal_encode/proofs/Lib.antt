@@ -14,4 +14,6 @@ pub mod ModesWritten
 pub mod FirstWritten
 pub mod FirstSize
 pub mod FrameMade
+pub mod BlocksPut
 mod Examples
+mod KeyExamples

@@ -8,6 +8,8 @@ mod head;
 mod laws;
 mod picture;
 mod plan;
+mod quantised;
+mod source;
 mod tokens;
 
 pub use frame::assemble;
